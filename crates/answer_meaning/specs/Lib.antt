@@ -1,0 +1,4 @@
+pub mod Made
+pub mod Answers
+pub mod Lines
+pub mod Laws
