@@ -1,5 +1,5 @@
 -- Laws of cells, symbol tables and blocks.
-use Rattle.std.specs.Prelude.{◌≡◌, ◌↔◌, ℕ, ◌+◌, List, ◌++◌, length, Option, Some, IsTrue}
+use Rattle.std.specs.Prelude.{◌≡◌, ◌↔◌, ℕ, ◌-◌, List, ◌++◌, length, Option, Some, IsTrue}
 use Rattle.std.specs.Option.{option_map}
 use Rattle.time_meaning.specs.Moments.{is_time}
 use Rattle.value_meaning.specs.Val.{Val, Vals, Fields, missing, null, truth, int, time, text, list, struct, no_vals, val, no_fields, field, vals}
@@ -13,11 +13,11 @@ use Rattle.block_meaning.specs.Blocks.{IsTable, IsBlock, table_at, block_in}
 abbrev pub HasFront : (List ℕ → Type 0) → List ℕ → List ℕ → Type 0
 HasFront Front bytes rest = (front : List ℕ) × (bytes ≡ front ++ rest) × Front front
 
--- Reading answers exactly the cell that stands at the front, at each depth.
+-- Reading answers exactly the cell that stands at the front, within whatever number of lists and structs.
 abbrev pub CellsAreRead : Type 0
 CellsAreRead =
-    (table : Table) (depth room : ℕ) → depth + room ≡ 128 → (v : Val) (bytes rest : List ℕ)
-    → (cell_to table room bytes ≡ Some (v, rest)) ↔ HasFront (IsCell table depth v) bytes rest
+    (table : Table) (depth : ℕ) (v : Val) (bytes rest : List ℕ)
+    → (cell_to table (128 - depth) bytes ≡ Some (v, rest)) ↔ HasFront (IsCell table depth v) bytes rest
 
 abbrev pub TablesAreRead : Type 0
 TablesAreRead =
