@@ -1,0 +1,4 @@
+pub mod Answered
+pub mod NumberReading
+pub mod TimeReading
+pub mod CellReading
