@@ -1,7 +1,6 @@
 -- Reading a cell that holds no cells answers exactly the cell that stands at the front.
-use Rattle.std.proofs.Common.{◌≡◌, ℕ, zero, suc, ◌+◌, ◌*◌, ◌/◌, ◌%◌, ◌^◌, ◌<◌, ◌≤◌, Bool, true, false, List, [], ◌∷◌, ◌++◌, length, take, drop, Option, Some, None, ltb, eqb, ◌||◌, refl, sym, ap, ◌∙◌, arith, ◌⊎◌, inl, inr, pos, negsuc, append_assoc}
+use Rattle.std.proofs.Common.{◌≡◌, ℕ, zero, suc, ◌+◌, ◌*◌, ◌/◌, ◌%◌, ◌^◌, ◌<◌, ◌≤◌, true, false, List, [], ◌∷◌, ◌++◌, length, take, drop, Option, Some, None, ltb, eqb, ◌||◌, refl, sym, ap, ◌∙◌, arith, ◌⊎◌, inl, inr, pos, negsuc, append_assoc}
 use Rattle.std.specs.Prelude.{◌≢◌, Contains}
-use Rattle.std.specs.Option.{option_map}
 use Rattle.std.specs.Str.{is_utf8}
 use Rattle.std.proofs.lemmas.Bool.{ltb-false, le-ltb}
 use Rattle.std.proofs.lemmas.Bool.Decides.{nat_tests}
@@ -13,7 +12,7 @@ use Rattle.block_meaning.specs.Numbers.{IsVarUInt, var_uint, magnitude}
 use Rattle.block_meaning.specs.Timestamps.{timestamp}
 use Rattle.block_meaning.specs.Tables.{Table, text_of}
 use Rattle.block_meaning.specs.Cells.{SaysLength, IsHead, HasPayload, IsMagnitude, null_types, IsCell}
-use Rattle.block_meaning.specs.CellReading.{counted, head_at, is_null_byte, one_byte, whole, below_zero, negative, symbol, scalar, with_payload, or_byte, cell_by, flat_cell}
+use Rattle.block_meaning.specs.CellReading.{counted, head_at, is_null_byte, one_byte, whole, below_zero, negative, symbol, scalar, with_payload, or_byte, cell_by}
 use Rattle.block_meaning.proofs.Answered.{chosen, some_is, none_is, then_is, map_is, or_true, or_false}
 use Rattle.block_meaning.proofs.NumberReading.{var_uint-takes, var_uint-again}
 use Rattle.block_meaning.proofs.TimeReading.{meant-is-read, read-is-meant}

@@ -1,7 +1,5 @@
 -- Reading cells within cells answers exactly the cells that stand there, and what is left is shorter.
-use Rattle.std.proofs.Common.{◌≡◌, ℕ, zero, suc, ◌+◌, ◌-◌, ◌<◌, ◌≤◌, Bool, true, false, List, [], ◌∷◌, ◌++◌, length, take, drop, Option, Some, None, ltb, eqb, refl, sym, ap, ◌∙◌, arith, inl, inr, pos, negsuc}
-use Rattle.std.specs.Option.{option_map, option_and_then}
-use Rattle.std.specs.Prelude.{is_some}
+use Rattle.std.proofs.Common.{◌≡◌, ℕ, zero, suc, ◌-◌, ◌<◌, ◌≤◌, false, List, [], ◌∷◌, ◌++◌, length, Some, ltb, eqb, refl, ap, ◌∙◌, arith, inl, inr, pos, negsuc}
 use Rattle.std.proofs.lemmas.Bool.{ltb-false, le-ltb}
 use Rattle.std.proofs.lemmas.Bool.Decides.{nat_tests}
 use Rattle.std.proofs.lemmas.List.{length-append}
@@ -11,16 +9,16 @@ use Rattle.block_meaning.specs.Tables.{Table, text_of}
 use Rattle.block_meaning.specs.Cells.{IsHead, HasPayload, IsCell, AreCells, ArePairs}
 use Rattle.block_meaning.specs.CellReading.{Reader, scalar, cells_by, pairs_by, node, cell_by, flat_cell, cell_to}
 use Rattle.block_meaning.specs.Laws.{HasFront, CellsAreRead}
-use Rattle.block_meaning.proofs.Answered.{chosen, some_is, none_is, then_is, map_is}
+use Rattle.block_meaning.proofs.Answered.{chosen, none_is, then_is, map_is}
 use Rattle.block_meaning.proofs.NumberReading.{var_uint-takes, var_uint-again}
-use Rattle.block_meaning.proofs.CellReading.{Single, Held, by_takes, one_again, by_again, single_takes, scalar_takes, plain_again}
+use Rattle.block_meaning.proofs.CellReading.{by_takes, by_again, single_takes, scalar_takes, plain_again}
 
 -- f reads the cells that stand at a depth, and no others
 pub record Reads (table : Table) (depth : ℕ) (f : Reader) : Type 0 where
   pub takes : (bytes : List ℕ) (v : Val) (rest : List ℕ) → f bytes ≡ Some (v, rest) → HasFront (IsCell table depth v) bytes rest
   pub again : (v : Val) (front rest : List ℕ) → IsCell table depth v front → f (front ++ rest) ≡ Some (v, rest)
 
-head_some : (t n : ℕ) (head : List ℕ) → IsHead t n head → 0 < length head
+pub head_some : (t n : ℕ) (head : List ℕ) → IsHead t n head → 0 < length head
 head_some t n [] h = absurd h
 head_some t n (b ∷ bs) h = omega arith
 

@@ -1,6 +1,5 @@
 -- The reader answers exactly the moment that the payload denotes.
-use Rattle.std.proofs.Common.{◌≡◌, ℕ, zero, suc, ◌+◌, ◌-◌, ◌*◌, ◌/◌, ◌%◌, ◌<◌, ◌≤◌, ◌^◌, Bool, true, false, not, ◌&&◌, ◌||◌, List, [], ◌∷◌, ◌++◌, length, Option, Some, None, cond, ltb, leb, refl, sym, ◌∙◌, ap, arith, ◌⊎◌, inl, inr, ℤ, pos, ◌↔◌}
-use Rattle.std.specs.Option.{option_map, option_and_then}
+use Rattle.std.proofs.Common.{◌≡◌, ℕ, ◌+◌, ◌-◌, ◌*◌, ◌/◌, ◌%◌, ◌<◌, ◌≤◌, ◌^◌, Bool, true, false, not, ◌&&◌, ◌||◌, List, [], ◌∷◌, ◌++◌, length, Some, None, cond, ltb, leb, refl, sym, ◌∙◌, ap, arith, inl, inr, ℤ, pos}
 use Rattle.std.proofs.lemmas.Bool.{ltb-false, le-ltb}
 use Rattle.std.proofs.lemmas.Bool.Decides.{nat_tests}
 use Rattle.block_meaning.specs.Numbers.{IsVarUInt, var_uint, IsVarInt, var_int, magnitude}
@@ -222,7 +221,7 @@ module _ (t : ℤ) (payload : List ℕ) where
       let c = clock-again d.0 h.hour h.minute (MayLead 0 h.second (IsMicros h.micros)) d.2 in
       let s = may-again 0 c.0 h.second (IsMicros h.micros) c.2 in
       chain-read (h.west, h.minutes, h.fields) (h.year, y.0) (h.month, m.0) (h.day, d.0) (h.hour, h.minute, c.0) (h.second, s.0) h.micros
-          (rw h.parts (int-again h.offset h.west h.minutes h.fields h.spells), h.within, y.1, m.1, d.1, c.1, s.1, fraction-again s.0 h.micros s.2, (h.past, h.date, h.hours, h.minutes_in, h.seconds), h.at)
+      (rw h.parts (int-again h.offset h.west h.minutes h.fields h.spells), h.within, y.1, m.1, d.1, c.1, s.1, fraction-again s.0 h.micros s.2, (h.past, h.date, h.hours, h.minutes_in, h.seconds), h.at)
 
   real_is : (y m d h i s f : ℕ) → moment_of y m d h i s f ≡ Some t → Real y m d h i s × (t ≡ moment y m d h i s f)
   unfolding moment_of
