@@ -6,3 +6,4 @@ pub mod NestedReading
 pub mod CellSteps
 pub mod Symbols
 pub mod LastSymbol
+pub mod TimeRange
