@@ -7,3 +7,4 @@ pub mod CellSteps
 pub mod Symbols
 pub mod LastSymbol
 pub mod TimeRange
+pub mod SoundCells
