@@ -8,3 +8,5 @@ pub mod Symbols
 pub mod LastSymbol
 pub mod TimeRange
 pub mod SoundCells
+pub mod TableReading
+pub mod BlockReading
