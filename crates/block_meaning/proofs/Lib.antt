@@ -10,3 +10,4 @@ pub mod TimeRange
 pub mod SoundCells
 pub mod TableReading
 pub mod BlockReading
+pub mod Worked
