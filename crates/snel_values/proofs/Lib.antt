@@ -1,2 +1,4 @@
-pub mod Stepping
+pub mod Comparing
+pub mod Finding
+pub mod Growing
 pub mod LastName

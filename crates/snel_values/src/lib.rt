@@ -22,9 +22,12 @@ pub use made::{MadeRow, MadeRows};
 pub use memory::OutOfMemory;
 pub use operators::{BinOp, CastTo, Func, How, IsWhat, Part};
 pub use ordering::{order, same};
-pub use pairs::{Pair, Pairs};
+pub use pairs::Pairs;
 pub use steps::{Step, Steps};
 pub use text::Text;
 pub use value::Value;
 pub use words::Words;
 
+
+#[cfg(test)]
+mod tests;

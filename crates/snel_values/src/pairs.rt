@@ -1,4 +1,4 @@
-ghost use Rattle.std.specs.Prelude.{◌≡◌, ◌↔◌, ℕ, List, [], ◌∷◌, ◌++◌, length, slice_get, OnOk, OnErr, IfOk, IfSome, option_copied};
+ghost use Rattle.std.specs.Prelude.{◌≡◌, ◌↔◌, ℕ, List, [], ◌∷◌, ◌++◌, length, slice_get, OnOk, OnErr, IfOk, IfSome, IsTrue, option_copied};
 ghost use Rattle.snel_values.specs.View.{view};
 ghost use Rattle.std.specs.Option.{option_map};
 ghost use Rattle.value_meaning.specs.Pairs.{IsBelow, IsAboveLast, last_name, value_of};
@@ -17,7 +17,7 @@ use std::marker::Model;
 /// A name and its value.
 #[cycle(value)]
 #[derive(Drop)]
-pub struct Pair {
+struct Pair {
     name: Text,
     value: Value,
 }
@@ -64,7 +64,7 @@ impl Pairs {
         }
     }
 
-    /// Adds a pair at the end. Its name is above the last name; `last_name` tells which that is.
+    /// Adds a pair at the end. Its name is above the last name, as `is_above_last` tests.
     pub fn push(&mut self, name: Text, value: Value) -> Result<(), OutOfMemory>
         requires { IsAboveLast name self.old }
         ensures ok { OnOk result (self.new ≡ self.old ++ (name, view value) ∷ []) }
@@ -88,7 +88,7 @@ impl Pairs {
         None
     }
 
-    /// The last name, which is the greatest. A name is above it exactly where `push` takes it.
+    /// The last name, which is the greatest: `push` takes the names above it, and any name where there is none.
     pub fn last_name(&self) -> Option<&str>
         ensures last { option_copied result ≡ last_name self.now }
         ensures above { (name : List ℕ) → IfSome result (λ s. IsBelow s.now name) ↔ IsAboveLast name self.now }
@@ -96,6 +96,16 @@ impl Pairs {
         match self.all.last() {
             Some(pair) => Some(pair.name.as_str()),
             None => None,
+        }
+    }
+
+    /// Whether the name is above the last name, so that `push` takes it.
+    pub fn is_above_last(&self, name: &str) -> bool
+        ensures { IsTrue result ↔ IsAboveLast name.now self.now }
+    {
+        match self.last_name() {
+            Some(last) => last < name,
+            None => true,
         }
     }
 

@@ -1,6 +1,6 @@
 use Rattle.std.proofs.Common.{arith}
 use Rattle.snel_values.specs.View.{view, pair_view}
-use Rattle.snel_values.proofs.Stepping.{copied}
+use Rattle.snel_values.proofs.Growing.{copied}
 use Rattle.snel_values.proofs.+copy.Goals as goal
 
 pub items::Items::copy-loop-item-preserved : goal.items::Items::copy-loop-item-preserved

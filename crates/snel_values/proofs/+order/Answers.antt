@@ -2,7 +2,7 @@ use Rattle.std.proofs.Common.{◌≡◌, ◌<◌, ◌≤◌, sym, ◌∙◌, ari
 use Rattle.std.proofs.lemmas.Grind.{common_steps}
 use Rattle.std.specs.Ordering.{nat_cmp}
 use Rattle.std.specs.Cmp.Lexicographic.{slice_cmp}
-use Rattle.snel_values.proofs.Stepping.{items_decided, items_tied, items_end, names_decided, pairs_decided, pairs_tied, pairs_end}
+use Rattle.snel_values.proofs.Comparing.{items_decided, items_tied, items_end, names_decided, pairs_decided, pairs_tied, pairs_end}
 use Rattle.snel_values.proofs.+order.Goals as goal
 
 pub items::Items::order-returns-then-ne : goal.items::Items::order-returns-then-ne

@@ -1,6 +1,6 @@
 use Rattle.std.proofs.Common.{◌≡◌, sym, arith, nat_eq, true, false}
 use Rattle.std.specs.Cmp.Lexicographic.{pointwise}
-use Rattle.snel_values.proofs.Stepping.{found_here, not_here}
+use Rattle.snel_values.proofs.Finding.{found_here, not_here}
 use Rattle.snel_values.proofs.pairs.Pairs.get.Goals as goal
 
 pub returns-then-eq : goal.returns-then-eq

@@ -1,5 +1,5 @@
 use Rattle.std.proofs.lemmas.List.{map-append}
-use Rattle.snel_values.proofs.Stepping.{HasSoundFields-push}
+use Rattle.snel_values.proofs.Growing.{HasSoundFields-push}
 use Rattle.snel_values.proofs.pairs.Pairs.push.Goals as goal
 
 pub invariant_of-self-2 : goal.invariant_of-self-2

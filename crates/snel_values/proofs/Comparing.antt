@@ -11,7 +11,7 @@ use Rattle.std.proofs.lemmas.Bool.Decides.{nat_tests}
 use mathlib.Core.Bool.{not}
 use Rattle.std.specs.Str.{IsUtf8}
 use Rattle.value_meaning.specs.Val.{Val, vals, fields}
-use Rattle.value_meaning.specs.Pairs.{Pairs, NamesRise, IsAboveLast, value_of}
+use Rattle.value_meaning.specs.Pairs.{Pairs, IsAboveLast, value_of}
 use Rattle.value_meaning.specs.Sound.{IsSound, AreSound, HasSoundFields}
 use Rattle.value_meaning.specs.Order.{val_cmp, vals_cmp, fields_cmp}
 use Rattle.snel_values.specs.declared.value.Value.{Value}
@@ -92,30 +92,3 @@ pairs_end xs ys i p q w o h k m e g is sofar =
     let last = pairs_ended (map pair_view xs) (map pair_view ys) i (omega (arith, lx)) (omega (arith, ly)) (omega (arith, lx, ly)) in
     is ∙ (rw (e, g, ← lx, ← ly) refl) ∙ sym (sofar ∙ last)
 
--- one more pair above the last
-pub NamesRise-push : (fs : Pairs) (f : List ℕ × Val) → NamesRise fs → IsAboveLast f.0 fs → NamesRise (fs ++ f ∷ [])
-NamesRise-push [] f r a = tt
-NamesRise-push (g ∷ []) f r a = (a, tt)
-NamesRise-push (g ∷ h ∷ fs) f r a = (r.0, NamesRise-push (h ∷ fs) f r.1 a)
-
--- one more element is copied
-pub copied : {A B : Type 0} (f : A → B) (all new xs : List A) (i : ℕ) (x y : A) → i < length xs → x ≡ get_or xs i x → f y ≡ f x → new ≡ all ++ y ∷ [] → map f all ≡ take i (map f xs) → map f new ≡ take (i + 1) (map f xs)
-copied f all new xs i x y h e same is sofar =
-    let k : i < length (map f xs) = grind (arith, common_steps) in
-    rw (is, map-append, sofar, add-one, take-suc (map f xs) i (f x) k, get_or-map f xs i x (f x) h, ← e, ← same) refl
-
-module _ (n : List ℕ) (xs : List Pair) (i : ℕ) (x : Pair) (w : Option Val) (h : i < length xs) (e : x ≡ get_or xs i x) (sofar : w ≡ value_of n (drop i (map pair_view xs))) where
-  pub found_here : pointwise nat_eq x.name n ≡ true → w ≡ Some (view x.value)
-  found_here t = sofar ∙ (rw (drop_map pair_view xs i x h e, t) refl)
-
-  pub not_here : pointwise nat_eq x.name n ≡ false → w ≡ value_of n (drop (i + 1) (map pair_view xs))
-  not_here t = sofar ∙ (rw (drop_map pair_view xs i x h e, t) refl)
-
-pub AreSound-push : (vs : List Val) (v : Val) → AreSound (vals vs) → IsSound v → AreSound (vals (vs ++ v ∷ []))
-AreSound-push [] v r s = (s, tt)
-AreSound-push (w ∷ vs) v r s = (r.0, AreSound-push vs v r.1 s)
-
-pub HasSoundFields-push : (fs : Pairs) (f : List ℕ × Val) → HasSoundFields (fields fs) → IsAboveLast f.0 fs → IsUtf8 f.0 → IsSound f.1 → HasSoundFields (fields (fs ++ f ∷ []))
-HasSoundFields-push [] f r a u s = (u, tt, s, tt)
-HasSoundFields-push (g ∷ []) f r a u s = (r.0, a, r.2, (u, tt, s, tt))
-HasSoundFields-push (g ∷ h ∷ fs) f r a u s = (r.0, r.1, r.2, HasSoundFields-push (h ∷ fs) f r.3 a u s)
