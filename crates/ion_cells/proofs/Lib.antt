@@ -1,0 +1,5 @@
+pub mod Answered
+pub mod Bounds
+pub mod Fronts
+pub mod Moments
+pub mod Symbols
