@@ -1,5 +1,6 @@
 pub mod Answered
 pub mod Bounds
+pub mod Checks
 pub mod Fronts
 pub mod Moments
 pub mod Symbols

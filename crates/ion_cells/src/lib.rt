@@ -1,6 +1,7 @@
 //! Cells, read where they lie in the bytes of a block. No call takes memory.
 #![tactic(auto)]
 
+mod check;
 mod heads;
 mod numbers;
 mod scalars;
