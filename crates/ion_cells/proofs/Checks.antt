@@ -9,8 +9,10 @@ use Rattle.value_meaning.specs.Val.{Val, list, struct}
 use Rattle.block_meaning.specs.Tables.{Table}
 use Rattle.block_meaning.specs.CellReading.{Reader, head_at, one_byte, or_byte, with_payload, cell_by, cell_to, cells_by, pairs_by, scalar, node}
 use Rattle.ion_cells.specs.Steps.{payload_to, pair_by}
-use Rattle.ion_cells.proofs.Answered.{some_is, is_map, there, not_there}
-use Rattle.ion_cells.proofs.Fronts.{Shrinks, cell_to_is, cell_less, cells_next, cells_stop, pairs_next, pairs_stop}
+use Rattle.block_meaning.proofs.Answered.{some_is}
+use Rattle.ion_cells.proofs.Answered.{there, not_there}
+use Rattle.block_meaning.proofs.CellSteps.{is_some_map, cell_shrinks, cells_next_some, cells_stop}
+use Rattle.ion_cells.proofs.Fronts.{cell_to_is, pair_next, pair_stop}
 
 abbrev pub ends : List ℕ → Option (List ℕ)
 ends rest = Some rest
@@ -81,7 +83,7 @@ module _ (table : Table) (room t : ℕ) (payload : List ℕ) where
       go zero h = absurd (omega arith)
       go (suc room) h =
           let s : suc room - 1 ≡ room = omega arith in
-          rw s (sym (is_map list (cells_by (cell_to table room) (length payload) payload)))
+          rw s (sym (is_some_map list (cells_by (cell_to table room) (length payload) payload)))
 
   pub struct_payload : t ≡ 13 → 0 < room → is_some (pairs_by (cell_to table (room - 1)) table 10 (length payload) payload) ≡ is_some (payload_to table room t payload)
   unfolding payload_to node
@@ -91,7 +93,7 @@ module _ (table : Table) (room t : ℕ) (payload : List ℕ) where
       go zero h = absurd (omega arith)
       go (suc room) h =
           let s : suc room - 1 ≡ room = omega arith in
-          rw s (sym (is_map struct (pairs_by (cell_to table room) table 10 (length payload) payload)))
+          rw s (sym (is_some_map struct (pairs_by (cell_to table room) table 10 (length payload) payload)))
 
   pub no_room : room ≡ 0 → payload_to table room t payload ≡ scalar table t payload
   unfolding payload_to
@@ -111,16 +113,16 @@ module _ (table : Table) (room : ℕ) (bytes : List ℕ) (at : ℕ) (within : at
       → is_some (cells_by (cell_to table room) (length bytes - at) (drop at bytes)) ≡ is_some (cells_by (cell_to table room) (length bytes - e) (drop e bytes))
   cells_on e g h k =
       let x = some_end rest_of (cell_to table room (drop at bytes)) (drop e bytes) k in
-      let step = cells_next (cell_to table room) (cell_less table room) (length bytes - at) (length bytes - e) (drop at bytes) x.0 x.1 (omega (arith, length-drop at bytes)) (omega (arith, ap length x.2, length-drop e bytes)) in
+      let step = cells_next_some (cell_to table room) (cell_shrinks table room) (length bytes - at) (length bytes - e) (drop at bytes) x.0 x.1 (omega (arith, length-drop at bytes)) (omega (arith, ap length x.2, length-drop e bytes)) in
       step ∙ ap (λ (z : List ℕ). is_some (cells_by (cell_to table room) (length bytes - e) z)) (sym x.2)
 
   pub cells_end : nothing ≡ option_map rest_of (cell_to table room (drop at bytes)) → is_some (cells_by (cell_to table room) (length bytes - at) (drop at bytes)) ≡ false
-  cells_end k = cells_stop (cell_to table room) (length bytes - at) (drop at bytes) (no_end rest_of _ k) (omega (arith, length-drop at bytes))
+  cells_end k = ap is_some (cells_stop (cell_to table room) (length bytes - at) (drop at bytes) (no_end rest_of _ k) (omega (arith, length-drop at bytes)))
 
   pub pairs_on : (low label e : ℕ) → at < e → e ≤ length bytes → Some (label, drop e bytes) ≡ pair_by (cell_to table room) table low (drop at bytes)
       → is_some (pairs_by (cell_to table room) table low (length bytes - at) (drop at bytes)) ≡ is_some (pairs_by (cell_to table room) table (label + 1) (length bytes - e) (drop e bytes))
   pairs_on low label e g h k =
-      rw add-one (pairs_next (cell_to table room) (cell_less table room) table low (length bytes - at) (length bytes - e) (drop at bytes) label (drop e bytes) (sym k) (omega (arith, length-drop at bytes)) (omega (arith, length-drop e bytes)))
+      rw add-one (pair_next (cell_to table room) (cell_shrinks table room) table low (length bytes - at) (length bytes - e) (drop at bytes) label (drop e bytes) (sym k) (omega (arith, length-drop at bytes)) (omega (arith, length-drop e bytes)))
 
   pub pairs_end : (low : ℕ) → pair_by (cell_to table room) table low (drop at bytes) ≡ None → is_some (pairs_by (cell_to table room) table low (length bytes - at) (drop at bytes)) ≡ false
-  pairs_end low k = pairs_stop (cell_to table room) (cell_less table room) table low (length bytes - at) (drop at bytes) k (omega (arith, length-drop at bytes))
+  pairs_end low k = pair_stop (cell_to table room) (cell_shrinks table room) table low (length bytes - at) (drop at bytes) k (omega (arith, length-drop at bytes))

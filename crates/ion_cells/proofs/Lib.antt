@@ -3,4 +3,5 @@ pub mod Bounds
 pub mod Checks
 pub mod Fronts
 pub mod Moments
+pub mod Stands
 pub mod Symbols
