@@ -33,14 +33,17 @@ module _ (table : Table) (room : ℕ) (bytes : List ℕ) (at : ℕ) where
     here : drop at bytes ≡ get_or bytes at 0 ∷ drop (at + 1) bytes
     here = drop-cons bytes at 0 within ∙ (rw add-one refl)
 
-    pub byte_end : is_some (one_byte (get_or bytes at 0)) ≡ true → ends (drop (at + 1) bytes) ≡ option_map rest_of (cell_to table room (drop at bytes))
+    pub by_byte : (v : Val) → one_byte (get_or bytes at 0) ≡ Some v → cell_to table room (drop at bytes) ≡ Some (v, drop (at + 1) bytes)
     unfolding cell_by
+    by_byte v e = rw (cell_to_is table room (drop at bytes), here, e) refl
+
+    pub byte_end : is_some (one_byte (get_or bytes at 0)) ≡ true → ends (drop (at + 1) bytes) ≡ option_map rest_of (cell_to table room (drop at bytes))
     byte_end e =
         let t = there (one_byte (get_or bytes at 0)) e in
-        rw (cell_to_is table room (drop at bytes), here, t.1) refl
+        rw (by_byte t.0 t.1) refl
 
     module _ (e : is_some (one_byte (get_or bytes at 0)) ≡ false) where
-      by_head : cell_to table room (drop at bytes) ≡ with_payload (payload_to table room) (drop at bytes)
+      pub by_head : cell_to table room (drop at bytes) ≡ with_payload (payload_to table room) (drop at bytes)
       unfolding cell_by
       by_head =
           let n = not_there (one_byte (get_or bytes at 0)) e in

@@ -6,6 +6,7 @@ mod check;
 mod heads;
 mod kind;
 mod numbers;
+mod parts;
 mod places;
 mod scalars;
 mod times;
