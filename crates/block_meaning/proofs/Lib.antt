@@ -6,3 +6,8 @@ pub mod NestedReading
 pub mod CellSteps
 pub mod Symbols
 pub mod LastSymbol
+pub mod TimeRange
+pub mod SoundCells
+pub mod TableReading
+pub mod BlockReading
+pub mod Worked

@@ -15,7 +15,7 @@ text_at (t ∷ ts) first (suc i) d h =
     let next : first + suc i ≡ suc first + i = omega arith in
     rw apart (rw next (text_at ts (suc first) i d (omega arith)))
 
-before_first : (table : Table) (first n : ℕ) → n < first → text_from first table n ≡ None
+pub before_first : (table : Table) (first n : ℕ) → n < first → text_from first table n ≡ None
 before_first [] first n h = refl
 before_first (t ∷ ts) first n h =
     let apart : eqb n first ≡ false = grind (arith, nat_tests) in
