@@ -13,7 +13,7 @@ use Rattle.block_meaning.proofs.CellSteps.{ends, some_read, none_read, first_of_
 use Rattle.block_meaning.proofs.LastSymbol.{length_blank, same_ends, same_cell}
 use Rattle.ion_cells.specs.Standing.{HasLast, StandsBetween, StandsNowhere}
 
-same_last : (table : Table) (last : ℕ) → HasLast table last → length (blank_table last) ≡ length table
+pub same_last : (table : Table) (last : ℕ) → HasLast table last → length (blank_table last) ≡ length table
 same_last table last h = length_blank last ∙ sym h
 
 module _ (last depth room : ℕ) (bytes : List ℕ) (at : ℕ) (left : room ≡ 128 - depth) where

@@ -3,7 +3,9 @@
 
 mod cell;
 mod check;
+mod fronts;
 mod heads;
+mod iterators;
 mod kind;
 mod numbers;
 mod parts;
@@ -13,6 +15,7 @@ mod times;
 
 pub use cell::Cell;
 pub use heads::{CellHead, head, payload};
+pub use iterators::{Cells, Fields};
 pub use kind::Kind;
 pub use numbers::{magnitude, var_uint};
 pub use places::{BadCell, cell_at, check_cell};
