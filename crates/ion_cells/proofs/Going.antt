@@ -2,6 +2,7 @@
 use Rattle.std.proofs.Common.{◌≡◌, ◌⊎◌, ℕ, zero, suc, ◌-◌, ◌+◌, ◌<◌, ◌≤◌, Bool, true, false, List, [], ◌∷◌, length, take, drop, get_or, Option, Some, None, ltb, add-one, refl, sym, ap, ◌∙◌, arith, inl, inr}
 use Rattle.std.specs.Option.{option_map, option_and_then}
 use Rattle.std.specs.Prelude.{is_some, unwrap_or}
+use Rattle.std.proofs.lemmas.List.{take_rest}
 use Rattle.value_meaning.specs.Val.{Val, Vals, Fields, val, field, items, pairs}
 use Rattle.block_meaning.specs.Tables.{Table, text_of}
 use Rattle.block_meaning.specs.CellReading.{Reader, head_at, one_byte, with_payload, cell_by, cell_to, cells_by, pairs_by, is_cell, cell_value, blank_table}
@@ -217,3 +218,7 @@ no_label last low (b ∷ bs) legal k =
 pub label_some : (bytes : List ℕ) (x : ℕ × List ℕ) → Some x ≡ var_uint bytes → 0 < length bytes
 label_some [] x k = let m = var_uint_shrinks [] x (sym k) in absurd (omega arith)
 label_some (b ∷ bs) x k = omega arith
+
+-- the slice from a place on is what follows the place
+pub behind_marked : (bytes : List ℕ) (label start : ℕ) → Some (label, drop start bytes) ≡ var_uint bytes → Some (label, take (length bytes - start) (drop start bytes)) ≡ var_uint bytes
+behind_marked bytes label start k = rw (take_rest bytes start) k
