@@ -1,0 +1,112 @@
+ghost use Rattle.std.specs.Prelude.{◌≡◌, true};
+ghost use Rattle.block_meaning.specs.CellReading.{is_cell, blank_table};
+
+use crate::kind::{Kind, byte_kind, payload_kind};
+use crate::numbers::magnitude;
+use crate::parts::part;
+use crate::times::micros_of;
+
+/// A cell, by its bytes, under a symbol table with a certain last number. Each reader is None exactly where the cell is of
+/// another kind.
+#[derive(Clone, Copy)]
+pub struct Cell<'b> {
+    bytes: &'b [u8],
+    last: u32,
+    ghost legal: { is_cell (blank_table last) bytes.now ≡ true },
+}
+
+impl<'b> Cell<'b> {
+    ghost use Rattle.std.specs.Prelude.{◌≡◌, ◌≤◌, Some, None, IfSome, IsTrue, if◌then◌else◌};
+    ghost use Rattle.std.specs.Option.{option_map};
+    ghost use Rattle.value_meaning.specs.Val.{Val};
+    ghost use Rattle.block_meaning.specs.Numbers.{magnitude};
+    ghost use Rattle.block_meaning.specs.Tables.{Table, text_of};
+    ghost use Rattle.block_meaning.specs.Cells.{IsCell};
+    ghost use Rattle.block_meaning.specs.Blocks.{only_payload};
+    ghost use Rattle.ion_cells.specs.Shown.{cell_bytes, cell_last, shown, is_symbol_cell, Fits};
+    ghost use Rattle.ion_cells.specs.Kinds.{kind_of};
+    ghost use Rattle.ion_cells.specs.Values.{int_of, truth_of, time_of, text_in};
+
+    /// The cell of these bytes, which are one and nothing else.
+    #[tactic(auto, unfolding(crate::specs::Shown::cell_bytes, crate::specs::Shown::cell_last))]
+    pub(crate) fn of_bytes(bytes: &'b [u8], last: u32) -> Cell<'b>
+        requires { is_cell (blank_table last) bytes.now ≡ true }
+        ensures bytes { cell_bytes result ≡ bytes.now }
+        ensures last { cell_last result ≡ last }
+    {
+        Cell { bytes, last }
+    }
+
+    /// The bytes of the cell.
+    #[tactic(auto, unfolding(crate::specs::Shown::cell_bytes))]
+    pub fn bytes(&self) -> &'b [u8]
+        ensures bytes { result.now ≡ cell_bytes self.now }
+        ensures cell { (table : Table) → Fits table self.now → IsCell table 0 (shown table self.now) result.now }
+    {
+        self.bytes
+    }
+
+    /// What kind of value the cell denotes.
+    pub fn kind(&self) -> Kind
+        ensures { (table : Table) → Fits table self.now → result ≡ kind_of (is_symbol_cell self.now) (shown table self.now) }
+    {
+        match part(self.bytes, self.last) {
+            None => byte_kind(self.bytes[0]),
+            Some((kind, _)) => payload_kind(kind),
+        }
+    }
+
+    /// The number.
+    pub fn int(&self) -> Option<i64>
+        ensures { (table : Table) → Fits table self.now → result ≡ int_of (shown table self.now) }
+    {
+        match part(self.bytes, self.last) {
+            Some((2, payload)) => Some(magnitude(payload) as i64),
+            Some((3, payload)) => Some(-1 - (magnitude(payload) - 1) as i64),
+            _ => None,
+        }
+    }
+
+    /// The truth value.
+    pub fn boolean(&self) -> Option<bool>
+        ensures { (table : Table) → Fits table self.now → result ≡ truth_of (shown table self.now) }
+    {
+        match self.bytes[0] {
+            16 => Some(false),
+            17 => Some(true),
+            _ => None,
+        }
+    }
+
+    /// The time, in microseconds from 1970-01-01T00:00:00Z on.
+    pub fn micros(&self) -> Option<i64>
+        ensures { (table : Table) → Fits table self.now → result ≡ time_of (shown table self.now) }
+    {
+        match part(self.bytes, self.last) {
+            Some((6, payload)) => micros_of(payload),
+            _ => None,
+        }
+    }
+
+    /// The text whose bytes stand in the cell.
+    pub fn text(&self) -> Option<&'b str>
+        ensures { (table : Table) → Fits table self.now
+            → option_map (λ s. s.now) result ≡ (if is_symbol_cell self.now then None else text_in (shown table self.now)) }
+    {
+        match part(self.bytes, self.last) {
+            Some((8, payload)) => Some(unsafe { std::str::from_utf8_unchecked(payload) }),
+            _ => None,
+        }
+    }
+
+    /// The number in the symbol table of the text that the cell denotes, where the number stands in the cell.
+    pub fn symbol(&self) -> Option<u32>
+        ensures number { result ≡ option_map magnitude (only_payload 7 (cell_bytes self.now)) }
+        ensures text { IfSome result (λ n. (table : Table) → Fits table self.now → text_of table n ≡ text_in (shown table self.now)) }
+    {
+        match part(self.bytes, self.last) {
+            Some((7, payload)) => Some(magnitude(payload) as u32),
+            _ => None,
+        }
+    }
+}
