@@ -4,5 +4,7 @@ pub mod Checks
 pub mod Fronts
 pub mod Moments
 pub mod Payloads
+pub mod Readers
+pub mod Signed
 pub mod Stands
 pub mod Symbols

@@ -185,3 +185,14 @@ module _ (last : ℕ) (bytes : List ℕ) (legal : is_cell (blank_table last) byt
         let m : start + n - start ≡ n = omega arith in
         let w : take (start + n - start) (drop start bytes) ≡ drop start bytes = rw (m, count_is t n (drop start bytes) k) (take-length (drop start bytes)) in
         rw w (has_part t n (drop start bytes) k)
+
+  pub shape : IsAlone last bytes ⊎ ((t : ℕ) × (p : List ℕ) × HasPart last bytes t p)
+  shape = go (is_some (one_byte (get_or bytes 0 0))) refl
+    where
+      behind : is_some (one_byte (get_or bytes 0 0)) ≡ false → (o : Option (ℕ × ℕ × List ℕ)) → head_at bytes ≡ o → IsAlone last bytes ⊎ ((t : ℕ) × (p : List ℕ) × HasPart last bytes t p)
+      behind e None k = inl (no_head_here e k)
+      behind e (Some x) k = inr (x.0, x.2, has_part e x.0 x.1 x.2 k)
+
+      go : (b : Bool) → is_some (one_byte (get_or bytes 0 0)) ≡ b → IsAlone last bytes ⊎ ((t : ℕ) × (p : List ℕ) × HasPart last bytes t p)
+      go true e = inl (alone e)
+      go false e = behind e (head_at bytes) refl

@@ -19,6 +19,7 @@ impl<'b> Cell<'b> {
     ghost use Rattle.std.specs.Prelude.{◌≡◌, ◌≤◌, Some, None, IfSome, IsTrue, if◌then◌else◌};
     ghost use Rattle.std.specs.Option.{option_map};
     ghost use Rattle.value_meaning.specs.Val.{Val};
+    ghost use Rattle.time_meaning.specs.Moments.{IsTime};
     ghost use Rattle.block_meaning.specs.Numbers.{magnitude};
     ghost use Rattle.block_meaning.specs.Tables.{Table, text_of};
     ghost use Rattle.block_meaning.specs.Cells.{IsCell};
@@ -51,8 +52,8 @@ impl<'b> Cell<'b> {
         ensures { (table : Table) → Fits table self.now → result ≡ kind_of (is_symbol_cell self.now) (shown table self.now) }
     {
         match part(self.bytes, self.last) {
-            None => byte_kind(self.bytes[0]),
             Some((kind, _)) => payload_kind(kind),
+            None => byte_kind(self.bytes[0]),
         }
     }
 
@@ -61,9 +62,16 @@ impl<'b> Cell<'b> {
         ensures { (table : Table) → Fits table self.now → result ≡ int_of (shown table self.now) }
     {
         match part(self.bytes, self.last) {
-            Some((2, payload)) => Some(magnitude(payload) as i64),
-            Some((3, payload)) => Some(-1 - (magnitude(payload) - 1) as i64),
-            _ => None,
+            Some((kind, payload)) => {
+                if kind == 2 {
+                    Some(magnitude(payload) as i64)
+                } else if kind == 3 {
+                    Some(-1 - (magnitude(payload) - 1) as i64)
+                } else {
+                    None
+                }
+            }
+            None => None,
         }
     }
 
@@ -71,20 +79,24 @@ impl<'b> Cell<'b> {
     pub fn boolean(&self) -> Option<bool>
         ensures { (table : Table) → Fits table self.now → result ≡ truth_of (shown table self.now) }
     {
-        match self.bytes[0] {
-            16 => Some(false),
-            17 => Some(true),
-            _ => None,
+        let byte = self.bytes[0];
+        if byte == 17 {
+            Some(true)
+        } else if byte == 16 {
+            Some(false)
+        } else {
+            None
         }
     }
 
-    /// The time, in microseconds from 1970-01-01T00:00:00Z on.
+    /// The time, in microseconds from 1970-01-01T00:00:00Z on. It lies from the year 1 to the year 9999.
     pub fn micros(&self) -> Option<i64>
-        ensures { (table : Table) → Fits table self.now → result ≡ time_of (shown table self.now) }
+        ensures time { (table : Table) → Fits table self.now → result ≡ time_of (shown table self.now) }
+        ensures range { IfSome result IsTime }
     {
         match part(self.bytes, self.last) {
-            Some((6, payload)) => micros_of(payload),
-            _ => None,
+            Some((kind, payload)) => if kind == 6 { micros_of(payload) } else { None },
+            None => None,
         }
     }
 
@@ -94,19 +106,20 @@ impl<'b> Cell<'b> {
             → option_map (λ s. s.now) result ≡ (if is_symbol_cell self.now then None else text_in (shown table self.now)) }
     {
         match part(self.bytes, self.last) {
-            Some((8, payload)) => Some(unsafe { std::str::from_utf8_unchecked(payload) }),
-            _ => None,
+            Some((kind, payload)) => if kind == 8 { Some(unsafe { std::str::from_utf8_unchecked(payload) }) } else { None },
+            None => None,
         }
     }
 
     /// The number in the symbol table of the text that the cell denotes, where the number stands in the cell.
     pub fn symbol(&self) -> Option<u32>
         ensures number { result ≡ option_map magnitude (only_payload 7 (cell_bytes self.now)) }
+        ensures range { IfSome result (λ n. (10 ≤ n) × (n ≤ cell_last self.now)) }
         ensures text { IfSome result (λ n. (table : Table) → Fits table self.now → text_of table n ≡ text_in (shown table self.now)) }
     {
         match part(self.bytes, self.last) {
-            Some((7, payload)) => Some(magnitude(payload) as u32),
-            _ => None,
+            Some((kind, payload)) => if kind == 7 { Some(magnitude(payload) as u32) } else { None },
+            None => None,
         }
     }
 }
