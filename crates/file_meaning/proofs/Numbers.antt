@@ -1,5 +1,5 @@
 -- Big endian numbers at a place of a list of bytes: what is spelled is read, and what is read is spelled.
-use Rattle.std.proofs.Common.{◌≡◌, ℕ, ◌+◌, ◌*◌, ◌^◌, ◌<◌, ◌≤◌, List, [], ◌∷◌, ◌++◌, length, take, drop, get_or, refl, sym, ap, ◌∙◌, subst, arith, length-drop}
+use Rattle.std.proofs.Common.{◌≡◌, ℕ, ◌+◌, ◌^◌, ◌<◌, ◌≤◌, List, ◌++◌, length, take, drop, get_or, refl, sym, ap, ◌∙◌, arith, length-drop}
 use Rattle.std.specs.Int.{to_be_bytes, from_be_bytes, w16, w32, w64}
 use Rattle.std.proofs.lemmas.Nat.{be_bytes_2, be_bytes_4, be_bytes_8, from_be_bytes-to_be_bytes_2, from_be_bytes-to_be_bytes_4, from_be_bytes-to_be_bytes_8}
 use Rattle.std.proofs.lemmas.List.{drop-drop, take-append-drop, length-take, length-take-le, get_or-take, get_or-drop, get_or_past}
@@ -27,6 +27,9 @@ are_bytes_of bytes at n all = λ i. elim (sides i) [ inl low ↦ below i low | i
     past i high =
         let short : length (take n (drop at bytes)) ≤ i = omega (arith, length-take n (drop at bytes)) in
         rw (get_or_past (take n (drop at bytes)) i 0 short) (omega arith)
+
+pub are_bytes_behind : (bytes : List ℕ) (at : ℕ) → AreBytes bytes → AreBytes (drop at bytes)
+are_bytes_behind bytes at all = λ i. rw (get_or-drop at bytes i 0) (all (at + i))
 
 pub u16_reads : (at n : ℕ) (bytes more : List ℕ) → n < 2 ^ 16 → drop at bytes ≡ to_be_bytes w16 n ++ more → u16_at at bytes ≡ n
 unfolding u16_at

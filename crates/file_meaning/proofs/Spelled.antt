@@ -1,8 +1,8 @@
 -- What is spelled is read: from a block file to what reading answers.
-use Rattle.std.proofs.Common.{◌≡◌, ℕ, ◌+◌, ◌-◌, ◌*◌, ◌^◌, ◌<◌, ◌≤◌, zero, suc, Bool, true, false, List, [], ◌∷◌, ◌++◌, length, take, drop, Option, Some, None, refl, sym, ap, ◌∙◌, subst, arith, length-drop, length-append, eq-eqb, append_assoc}
+use Rattle.std.proofs.Common.{◌≡◌, ℕ, ◌+◌, ◌-◌, ◌*◌, ◌^◌, ◌<◌, ◌≤◌, true, List, [], ◌∷◌, ◌++◌, length, take, drop, Option, Some, refl, sym, ap, ◌∙◌, arith, length-append, eq-eqb}
 use Rattle.std.specs.Prelude.{codes, flat_map, nat_le, ◌==◌, FitsSigned}
-use Rattle.std.specs.Int.{to_be_bytes, cast_signed, cast_unsigned, w16, w32, w64}
-use Rattle.std.specs.Str.{IsUtf8, is_utf8}
+use Rattle.std.specs.Int.{to_be_bytes, cast_signed, cast_unsigned, w32, w64}
+use Rattle.std.specs.Str.{is_utf8}
 use Rattle.std.proofs.lemmas.Str.{is_utf8-from_IsUtf8}
 use Rattle.std.proofs.lemmas.Int.{to_z-of_z}
 use Rattle.std.proofs.lemmas.List.{drop-drop}
@@ -11,7 +11,8 @@ use Rattle.std.proofs.Math.Facts.{Fits-of_z}
 use Rattle.std.proofs.Common.{Fits, ℤ}
 use Rattle.std.proofs.Math.Seq.{drop-append_seam, take-append_seam}
 use Rattle.file_meaning.specs.Files.{Entry, IsEntry, IsFile, StandEndToEnd, entry_bytes, index_bytes, tail_bytes}
-use Rattle.file_meaning.specs.Reading.{u16_at, u32_at, u64_at, has_magic, entry_at, stands_at, entries_at, named_at, index_in, can_be_index, gap_in, index_before, file_in}
+use Rattle.file_meaning.specs.Index.{IsIndex}
+use Rattle.file_meaning.specs.Reading.{u16_at, u32_at, u64_at, has_magic, entry_at, stands_at, entries_at, named_at, index_in, gap_in, index_before, file_in}
 use Rattle.file_meaning.proofs.Numbers.{behind, u16_reads, u32_reads, u64_reads}
 
 -- an entry fits its 32 bytes
@@ -66,13 +67,7 @@ length-entries (e ∷ es) = let rest = length-entries es in omega (arith, rest)
 pub length-index : (f : List ℕ) (es : List Entry) → length (index_bytes f es) ≡ 10 + length f + 32 * length es
 length-index f es = omega (arith, length-append f (to_be_bytes w32 (length es) ++ flat_map entry_bytes es), length-entries es)
 
--- the field and the entries are in range, and the blocks end there
-pub record IsIndex (f : List ℕ) (es : List Entry) (to : ℕ) : Type 0 where
-  pub short_name : length f ≤ 255
-  pub name : IsUtf8 f
-  pub few : length es ≤ 2 ^ 20
-  pub stand : StandEndToEnd 0 es to
-
+-- a reader answers this field and these entries
 abbrev pub Answers : Option (List ℕ × List Entry) → List ℕ → List Entry → Type 0
 Answers o f es = let index : Option (List ℕ × List Entry) = Some (f, es) in o ≡ index
 

@@ -1,11 +1,8 @@
-use Rattle.std.proofs.Common.{◌≡◌, ℕ, List, Option, Some, sym, ap, ◌∙◌}
+use Rattle.std.proofs.Common.{ℕ, List, sym, ap, ◌∙◌}
 use Rattle.file_meaning.specs.Files.{Entry}
+use Rattle.file_meaning.proofs.Believed.{inside}
 use Rattle.file_meaning.proofs.Spelled.{file_reads}
 use Rattle.file_meaning.proofs.one_index.Goals as goal
-
--- what is in a Some is one
-inside : {T : Type 0} (x y : T) → Some x ≡ Some y → x ≡ y
-inside x y is = cc
 
 pub returns : goal.returns
 returns c = λ bytes f g es ds first second.
