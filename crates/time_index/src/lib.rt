@@ -3,8 +3,12 @@
 
 mod entries;
 mod entry;
+
+mod index;
 mod numbers;
-mod parts;
+mod reading;
 
 pub use entries::Entries;
 pub use entry::Entry;
+
+pub use index::{Index, IndexFault};
