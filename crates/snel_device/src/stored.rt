@@ -1,37 +1,30 @@
-// A map from names to bytes, as contents.
-ghost use Rattle.std.specs.Prelude.{◌≡◌, ◌++◌, ℕ, List, OnOk, OnErr, Some, IsSome, length};
-ghost use Rattle.std.specs.Bool.{OnTrue, OnFalse};
-ghost use Rattle.std.specs.Option.{option_map};
-ghost use Rattle.std.specs.Map.{update};
-ghost use Rattle.std.specs.Str.{bytes_eq};
-ghost use Rattle.snel_device.specs.Contents.{IsWithin, HasAt};
-ghost use Rattle.snel_device.specs.Memory.{held_in};
-
+// A map from names to bytes, as files.
+ghost use Rattle.std.specs.Prelude.{◌≡◌, OnOk, OnErr, IsSome, length};
+ghost use Rattle.snel_device.specs.Contents.{with_file, with_piece, IsWithin, HasAt};
+ghost use Rattle.snel_device.specs.Stored.{held_in};
 
 use std::alloc::{AllocError, Global};
 use std::collections::BTreeMap;
 
+// Puts a file there, in place of one of this name.
 pub fn put_file(
     alloc: Global,
     files: &mut BTreeMap<String, Vec<u8>>,
     name: &str,
     bytes: &[u8],
 ) -> Result<(), AllocError>
-    ensures ok { OnOk result ((q : List ℕ) → held_in files.new q ≡ update bytes_eq (held_in files.old) name.now (Some bytes.now) q) }
-    ensures err { OnErr result ((q : List ℕ) → held_in files.new q ≡ held_in files.old q) }
+    ensures put { OnOk result (held_in files.new ≡ with_file name.now bytes.now (held_in files.old)) }
+    ensures unchanged { OnErr result (held_in files.new ≡ held_in files.old) }
 {
-    let Ok(key) = String::from_str(alloc, name) else {
-        return Err(AllocError);
-    };
-    let Ok(value) = bytes.to_vec(alloc) else {
-        return Err(AllocError);
-    };
+    let key = String::from_str(alloc, name)?;
+    let value = bytes.to_vec(alloc)?;
     match files.insert(key, value) {
         Ok(_) => Ok(()),
         Err(_) => Err(AllocError),
     }
 }
 
+// The part of a file from a place on that fills `into`.
 pub fn copy_part(files: &BTreeMap<String, Vec<u8>>, name: &str, at: u64, into: &mut [u8])
     requires { IsWithin (held_in files.now) name.now at (length into.old) }
     ensures { HasAt (held_in files.now) name.now at into.new }
@@ -45,16 +38,20 @@ pub fn copy_part(files: &BTreeMap<String, Vec<u8>>, name: &str, at: u64, into: &
     }
 }
 
-// Whether memory was left for the piece. If not, nothing is added.
-pub fn extend_file(files: &mut BTreeMap<String, Vec<u8>>, name: &str, piece: &[u8]) -> bool
+// Adds a piece at the end of a file.
+pub fn extend_file(
+    files: &mut BTreeMap<String, Vec<u8>>,
+    name: &str,
+    piece: &[u8],
+) -> Result<(), AllocError>
     requires { IsSome (held_in files.old name.now) }
-    ensures added { OnTrue result ((q : List ℕ) → held_in files.new q ≡ update bytes_eq (held_in files.old) name.now (option_map (λ bytes. bytes ++ piece.now) (held_in files.old name.now)) q) }
-    ensures unchanged { OnFalse result ((q : List ℕ) → held_in files.new q ≡ held_in files.old q) }
+    ensures grown { OnOk result (held_in files.new ≡ with_piece name.now piece.now (held_in files.old)) }
+    ensures unchanged { OnErr result (held_in files.new ≡ held_in files.old) }
 {
     match files.get_mut(name) {
         Some(bytes) => match bytes.extend_from_slice(piece) {
-            Ok(()) => true,
-            Err(_) => false,
+            Ok(()) => Ok(()),
+            Err(e) => Err(e),
         },
         None => unreachable!(),
     }

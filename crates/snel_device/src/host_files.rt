@@ -1,9 +1,11 @@
-use crate::{Failed, Files, FreshFault, Input, Out, SizeFault};
+use crate::{Failed, Files, FreshFault, SizeFault};
 use std::fs::{File, OpenOptions};
 use std::io::{ErrorKind, Read, Seek, SeekFrom, Write};
-use std::{fs, rt};
+use std::{fs, io, rt};
 
-/// The files of the system, which tell nothing of what they hold.
+/// The files of the system, by their paths. They tell nothing of what they hold.
+///
+/// Each call opens the file anew. The counts start at 0.
 #[derive(Drop)]
 pub struct HostFiles<'r, R: rt::Files> {
     rt: &'r R,
@@ -14,6 +16,7 @@ pub struct HostFiles<'r, R: rt::Files> {
 }
 
 impl<'r, R: rt::Files> HostFiles<'r, R> {
+    /// The files that the runtime reaches.
     pub fn new(rt: &'r R) -> Self {
         HostFiles {
             rt,
@@ -24,13 +27,15 @@ impl<'r, R: rt::Files> HostFiles<'r, R> {
         }
     }
 
-    fn try_read(&self, name: &str, at: u64, into: &mut [u8]) -> std::io::Result<()> {
+    // A read that ends before `into` is full is an error.
+    fn try_read(&self, name: &str, at: u64, into: &mut [u8]) -> io::Result<()> {
         let mut file = File::open(self.rt, name)?;
         file.seek(SeekFrom::Start(at))?;
         file.read_exact(into)
     }
 
-    fn try_append(&self, name: &str, piece: &[u8]) -> std::io::Result<()> {
+    // A write that takes nothing of a piece that isn't empty is an error.
+    fn try_append(&self, name: &str, piece: &[u8]) -> io::Result<()> {
         let mut file = OpenOptions::new().append(true).open(self.rt, name)?;
         file.write_all(piece)
     }
@@ -96,68 +101,6 @@ impl<R: rt::Files> Files for HostFiles<'_, R> {
             Ok(()) => Ok(()),
             Err(_) => {
                 self.write_faults = self.write_faults.saturating_add(1);
-                Err(Failed)
-            }
-        }
-    }
-}
-
-/// A writer of the system, which tells nothing of what it holds.
-#[derive(Drop)]
-pub struct HostOut<W: Write> {
-    inner: W,
-    faults: u64,
-}
-
-impl<W: Write> HostOut<W> {
-    pub fn new(inner: W) -> Self {
-        HostOut { inner, faults: 0 }
-    }
-}
-
-impl<W: Write> Out for HostOut<W> {
-    ghost use Rattle.std.specs.Prelude.{None};
-
-    ghost holds = { λ _. None };
-
-    ghost faults = { λ s. s.faults };
-
-    fn put(&mut self, piece: &[u8]) -> Result<(), Failed> {
-        match self.inner.write_all(piece) {
-            Ok(()) => Ok(()),
-            Err(_) => {
-                self.faults = self.faults.saturating_add(1);
-                Err(Failed)
-            }
-        }
-    }
-}
-
-/// A reader of the system. It tells what its reader tells.
-#[derive(Drop)]
-pub struct HostInput<R: Read> {
-    inner: R,
-    faults: u64,
-}
-
-impl<R: Read> HostInput<R> {
-    pub fn new(inner: R) -> Self {
-        HostInput { inner, faults: 0 }
-    }
-}
-
-impl<R: Read> Input for HostInput<R> {
-    ghost use Rattle.std.specs.Prelude.{None};
-
-    ghost left = { λ _. None };
-
-    ghost faults = { λ s. s.faults };
-
-    fn read(&mut self, into: &mut [u8]) -> Result<usize, Failed> {
-        match self.inner.read(into) {
-            Ok(count) => Ok(count),
-            Err(_) => {
-                self.faults = self.faults.saturating_add(1);
                 Err(Failed)
             }
         }
