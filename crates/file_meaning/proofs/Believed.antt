@@ -12,7 +12,7 @@ use Rattle.std.proofs.lemmas.Bool.Decides.{nat_tests}
 use Rattle.std.proofs.lemmas.Slice.Eq.{bytes_eq-Decides}
 use Rattle.std.proofs.Math.Facts.{sfits_to_z, Fits-of_lt}
 use Rattle.file_meaning.specs.Files.{Entry, IsEntry, IsFile, StandEndToEnd, entry_bytes, index_bytes, tail_bytes}
-use Rattle.file_meaning.specs.Index.{IsIndex}
+use Rattle.file_meaning.specs.Index.{SpellsIndex}
 use Rattle.file_meaning.specs.Reading.{AreBytes, u16_at, u32_at, u64_at, has_magic, entry_at, stands_at, entries_at, named_at, index_in, can_be_index, gap_in, index_before, file_in}
 use Rattle.file_meaning.proofs.Numbers.{u16_spells, u32_spells, u64_spells, u64_small, are_bytes_of, are_bytes_behind}
 use Rattle.file_meaning.proofs.Spelled.{Answers}
@@ -154,11 +154,7 @@ named_spell to n count bytes f es all h =
     }
 
 -- what reading an index believes
-pub record IsSpelled (to : ℕ) (bytes f : List ℕ) (es : List Entry) : Type 0 where
-  pub spelled : bytes ≡ index_bytes f es
-  pub index : IsIndex f es to
-
-pub index_spells : (to : ℕ) (bytes f : List ℕ) (es : List Entry) → AreBytes bytes → Answers (index_in to bytes) f es → IsSpelled to bytes f es
+pub index_spells : (to : ℕ) (bytes f : List ℕ) (es : List Entry) → AreBytes bytes → Answers (index_in to bytes) f es → SpellsIndex bytes f es to
 unfolding index_in
 index_spells to bytes f es all h =
     let n = u16_at 4 bytes in
@@ -178,7 +174,7 @@ index_spells to bytes f es all h =
     let sized : drop 4 bytes ≡ to_be_bytes w16 (length f) ++ (f ++ (to_be_bytes w32 (length es) ++ flat_map entry_bytes es)) = first ∙ ap (λ (l : List ℕ). to_be_bytes w16 n ++ l) named ∙ ap (λ (k : ℕ). to_be_bytes w16 k ++ (f ++ (to_be_bytes w32 (length es) ++ flat_map entry_bytes es))) (sym long) in
     record {
       spelled = sym (take-append-drop 4 bytes) ∙ ap (λ (l : List ℕ). l ++ drop 4 bytes) magic ∙ ap (λ (l : List ℕ). codes "SNX1" ++ l) sized;
-      index = record { short_name = omega arith; name = p.utf8; few = omega arith; stand = p.entries.stand };
+      within = record { short_name = omega arith; name = p.utf8; few = omega arith; stand = p.entries.stand };
     }
 
 -- what reading a tail believes
@@ -197,37 +193,42 @@ gap_is at tail gap h =
     let same : g ≡ gap = inside g gap t.is in
     record { magic = u.0; is = same; low = grind (arith, nat_tests, u.1); high = grind (arith, nat_tests, u.1) }
 
--- the parts of a file that a reader of its index has seen
-pub record HasRead (bytes tail part : List ℕ) (gap : ℕ) : Type 0 where
-  pub tail_is : tail ≡ drop (length bytes - 12) bytes
-  pub part_is : part ≡ take gap (drop (length bytes - 12 - gap) bytes)
-  pub tail_all : AreBytes tail
-  pub part_all : AreBytes part
-
-pub file_spells : (bytes tail part : List ℕ) (gap : ℕ) (f : List ℕ) (es : List Entry) → HasRead bytes tail part gap → gap_in (length bytes - 12) tail ≡ Some gap → Answers (index_in (length bytes - 12 - gap) part) f es → IsFile bytes f es
-file_spells bytes tail part gap f es read gap_answer index_answer =
-    let at = length bytes - 12 in
-    let to = at - gap in
-    let g = gap_is at tail gap gap_answer in
+-- a tail spells where the index before it starts
+pub tail_spells : (at : ℕ) (tail : List ℕ) (gap : ℕ) → AreBytes tail → length tail ≡ 12 → gap_in at tail ≡ Some gap → tail ≡ tail_bytes (at - gap)
+tail_spells at tail gap all twelve answer =
+    let g = gap_is at tail gap answer in
     let low = g.low in
     let is = g.is in
-    let i = index_spells to part f es read.part_all index_answer in
-    let twelve : length tail ≡ 12 = ap length read.tail_is ∙ omega (arith, length-drop at bytes) in
-    let start : u64_at 0 tail ≡ to = omega arith in
-    let number = u64_spells 0 8 tail read.tail_all refl (omega arith) in
+    let start : u64_at 0 tail ≡ at - gap = omega arith in
+    let number = u64_spells 0 8 tail all refl (omega arith) in
     let magic : drop 8 tail ≡ codes "SNX1" = sym (take_all 4 (drop 8 tail) (omega (arith, length-drop 8 tail))) ∙ magic_is 8 tail g.magic in
+    number ∙ ap (λ (l : List ℕ). to_be_bytes w64 (u64_at 0 tail) ++ l) magic ∙ ap tail_bytes start
+
+-- the parts of a file that a reader of its index has seen
+pub record HasRead (bytes tail part : List ℕ) (gap : ℕ) : Type 0 where
+  pub enough : 12 ≤ length bytes
+  pub within : gap ≤ length bytes - 12
+  pub tail_is : tail ≡ drop (length bytes - 12) bytes
+  pub part_is : part ≡ take gap (drop (length bytes - 12 - gap) bytes)
+
+pub file_of_parts : (bytes tail part : List ℕ) (gap : ℕ) (f : List ℕ) (es : List Entry) → HasRead bytes tail part gap → tail ≡ tail_bytes (length bytes - 12 - gap) → SpellsIndex part f es (length bytes - 12 - gap) → IsFile bytes f es
+file_of_parts bytes tail part gap f es read tail_spelled index =
+    let at = length bytes - 12 in
+    let to = at - gap in
+    let enough = read.enough in
+    let within = read.within in
     let together : to + gap ≡ at = omega arith in
     let blocks_long : length (take to bytes) ≡ to = length-take-le to bytes (omega arith) in
-    let tail_spelled : tail ≡ tail_bytes (length (take to bytes)) = number ∙ ap (λ (l : List ℕ). to_be_bytes w64 (u64_at 0 tail) ++ l) magic ∙ ap tail_bytes (start ∙ sym blocks_long) in
     let behind : drop to bytes ≡ part ++ tail = sym (take-append-drop gap (drop to bytes)) ∙ ap (λ (l : List ℕ). l ++ drop gap (drop to bytes)) (sym read.part_is) ∙ ap (λ (l : List ℕ). part ++ l) (drop-drop gap to bytes ∙ ap (λ (k : ℕ). drop k bytes) together ∙ sym read.tail_is) in
-    let index = i.index in
+    let ended : tail ≡ tail_bytes (length (take to bytes)) = tail_spelled ∙ ap tail_bytes (sym blocks_long) in
+    let limits = index.within in
     record {
       blocks = take to bytes;
-      parts = sym (take-append-drop to bytes) ∙ ap (λ (l : List ℕ). take to bytes ++ l) (behind ∙ ap (λ (l : List ℕ). l ++ tail) i.spelled ∙ ap (λ (l : List ℕ). index_bytes f es ++ l) tail_spelled);
-      short_name = index.short_name;
-      name = index.name;
-      few = index.few;
-      stand = subst (λ (n : ℕ). StandEndToEnd 0 es n) (sym blocks_long) index.stand;
+      parts = sym (take-append-drop to bytes) ∙ ap (λ (l : List ℕ). take to bytes ++ l) (behind ∙ ap (λ (l : List ℕ). l ++ tail) index.spelled ∙ ap (λ (l : List ℕ). index_bytes f es ++ l) ended);
+      short_name = limits.short_name;
+      name = limits.name;
+      few = limits.few;
+      stand = subst (λ (n : ℕ). StandEndToEnd 0 es n) (sym blocks_long) limits.stand;
     }
 
 record ThenIs {S T : Type 0} (o : Option S) (k : S → Option T) (x : T) : Type 0 where
@@ -246,5 +247,13 @@ file_is bytes f es all h =
     let at = length bytes - 12 in
     let y : List ℕ × List Entry = (f, es) in
     let t = then_is (gap_in at (drop at bytes)) (λ gap. index_in (at - gap) (take gap (drop (at - gap) bytes))) y h in
-    let read : HasRead bytes (drop at bytes) (take t.first (drop (at - t.first) bytes)) t.first = record { tail_is = refl; part_is = refl; tail_all = are_bytes_behind bytes at all; part_all = are_bytes_of bytes (at - t.first) t.first all } in
-    file_spells bytes (drop at bytes) (take t.first (drop (at - t.first) bytes)) t.first f es read t.first_is t.then_is
+    let gap = t.first in
+    let part = take gap (drop (at - gap) bytes) in
+    let g = gap_is at (drop at bytes) gap t.first_is in
+    let low = g.low in
+    let is = g.is in
+    let twelve : length (drop at bytes) ≡ 12 = omega (arith, length-drop at bytes) in
+    let read : HasRead bytes (drop at bytes) part gap = record { enough = omega arith; within = omega arith; tail_is = refl; part_is = refl } in
+    let ended = tail_spells at (drop at bytes) gap (are_bytes_behind bytes at all) twelve t.first_is in
+    let index = index_spells (at - gap) part f es (are_bytes_of bytes (at - gap) gap all) t.then_is in
+    file_of_parts bytes (drop at bytes) part gap f es read ended index

@@ -3,12 +3,12 @@
 
 mod entries;
 mod entry;
-
+mod files;
 mod index;
 mod numbers;
 mod reading;
 
 pub use entries::Entries;
 pub use entry::Entry;
-
+pub use files::read_index;
 pub use index::{Index, IndexFault};

@@ -1,4 +1,4 @@
-ghost use Rattle.std.specs.Prelude.{◌≡◌, ◌+◌, ◌*◌, ◌^◌, ◌≤◌, length, IfOk};
+ghost use Rattle.std.specs.Prelude.{◌≡◌, ◌+◌, ◌*◌, ◌^◌, ◌≤◌, length, IfOk, IfSome};
 ghost use Rattle.std.specs.Option.{option_map};
 ghost use Rattle.file_meaning.specs.Reading.{entry_at, stands_at, entries_at, named_at, index_in, gap_in};
 
@@ -112,7 +112,10 @@ pub(crate) fn index_in(alloc: Global, bytes: &[u8], to: u64) -> Result<Option<In
 #[tactic(auto, unfolding(file_meaning::specs::Reading::gap_in))]
 pub(crate) fn gap_in(at: u64, tail: &[u8]) -> Option<u64>
     requires { length tail.now ≡ 12 }
-    ensures { result ≡ gap_in at tail.now }
+    ensures gap { result ≡ gap_in at tail.now }
+    ensures least { IfSome result (λ gap. 10 ≤ gap) }
+    ensures most { IfSome result (λ gap. gap ≤ 33_554_697) }
+    ensures within { IfSome result (λ gap. gap ≤ at) }
 {
     let gap = at.saturating_sub(u64_at(tail, 0));
     if has_magic(tail, 8) && 10 <= gap && gap <= MOST_INDEX_BYTES {
