@@ -1,6 +1,7 @@
 ghost use Rattle.std.specs.Prelude.{◌≡◌, ◌≢◌, ◌↔◌, ◌+◌, ◌≤◌, length, take, drop, IfOk, IsErr, IsErrOf, None};
 ghost use Rattle.std.specs.Option.{ForSome};
 ghost use Rattle.snel_device.specs.Causes.{HasCause};
+ghost use Rattle.snel_device.specs.Contents.{IsWithin, HasAt};
 ghost use Rattle.file_meaning.specs.Files.{IsFile};
 ghost use Rattle.time_index.specs.Answers.{Knows, IsNoFile, IsSomeIndex, Costs};
 
@@ -100,8 +101,8 @@ fn read_part<F: Files>(
     at: u64,
     count: usize,
 ) -> Result<Vec<u8>, IndexFault>
-    requires { Knows (F.told files.old) name.now (λ bytes. at + count ≤ length bytes) }
-    ensures part { IfOk result (λ part. Knows (F.told files.old) name.now (λ bytes. part.items ≡ take (length part.items) (drop at bytes))) }
+    requires { ForSome (F.told files.old) (λ told. IsWithin told name.now at count) }
+    ensures part { IfOk result (λ part. ForSome (F.told files.old) (λ told. HasAt told name.now at part.items)) }
     ensures count { IfOk result (λ part. length part.items ≡ count) }
     ensures not_absent { result ≢ Err IndexFault.Absent }
     ensures not_no_file { result ≢ Err IndexFault.NotAFile }

@@ -1,5 +1,7 @@
-ghost use Rattle.std.specs.Prelude.{◌≡◌, ◌+◌, ◌*◌, ◌^◌, ◌≤◌, length, IfOk, IfSome};
+ghost use Rattle.std.specs.Prelude.{◌≡◌, ◌+◌, ◌-◌, ◌*◌, ◌^◌, ◌≤◌, length, IfOk, IfSome};
 ghost use Rattle.std.specs.Option.{option_map};
+ghost use Rattle.file_meaning.specs.Files.{tail_bytes};
+ghost use Rattle.file_meaning.specs.Index.{SpellsIndex};
 ghost use Rattle.file_meaning.specs.Reading.{entry_at, stands_at, entries_at, named_at, index_in, gap_in};
 
 use crate::entries::Entries;
@@ -94,7 +96,8 @@ fn named_at(
 // The index that the bytes are, of blocks up to `to`. `None` where they are none.
 pub(crate) fn index_in(alloc: Global, bytes: &[u8], to: u64) -> Result<Option<Index>, OutOfMemory>
     requires { 10 ≤ length bytes.now }
-    ensures { IfOk result (λ index. option_map (λ i. (i.field, i.entries)) index ≡ index_in to bytes.now) }
+    ensures read { IfOk result (λ index. option_map (λ i. (i.field, i.entries)) index ≡ index_in to bytes.now) }
+    ensures spelled { IfOk result (λ index. IfSome index (λ i. SpellsIndex bytes.now i.field i.entries to)) }
 {
     if !has_magic(bytes, 0) {
         return Ok(None);
@@ -116,6 +119,7 @@ pub(crate) fn gap_in(at: u64, tail: &[u8]) -> Option<u64>
     ensures least { IfSome result (λ gap. 10 ≤ gap) }
     ensures most { IfSome result (λ gap. gap ≤ 33_554_697) }
     ensures within { IfSome result (λ gap. gap ≤ at) }
+    ensures spelled { IfSome result (λ gap. tail.now ≡ tail_bytes (at - gap)) }
 {
     let gap = at.saturating_sub(u64_at(tail, 0));
     if has_magic(tail, 8) && 10 <= gap && gap <= MOST_INDEX_BYTES {
