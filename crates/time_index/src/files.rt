@@ -12,6 +12,7 @@ use std::alloc::Global;
 
 // The bytes of a tail, and of the smallest block file, which has no blocks and no field.
 const TAIL_BYTES: u64 = 12;
+
 const LEAST_FILE_BYTES: u64 = 22;
 
 /// Reads the index of the block file of this name. It asks for the size and reads the tail and the

@@ -13,7 +13,9 @@ use std::alloc::Global;
 
 // The longest name, the most entries, and the bytes of an index with both.
 const MOST_NAME_BYTES: usize = 255;
+
 const MOST_ENTRIES: usize = 1_048_576;
+
 const MOST_INDEX_BYTES: u64 = 33_554_697;
 
 // What the 32 bytes at a place say of a block.

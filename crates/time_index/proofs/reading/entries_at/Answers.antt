@@ -17,6 +17,6 @@ loop-i-preserved c =
 pub returns : goal.returns
 returns c =
     elim c.if-from-to.branch [
-      then-from-to w ↦ w.result-is ∙ sym (ends_well c.args.to c.args.count c.args.at c.loop-i.i c.loop-i.from c.args.bytes.now c.loop-i.entries c.loop-i.invariant c.loop-i-test.false w.if-from-to.true)
+      | then-from-to w ↦ w.result-is ∙ sym (ends_well c.args.to c.args.count c.args.at c.loop-i.i c.loop-i.from c.args.bytes.now c.loop-i.entries c.loop-i.invariant c.loop-i-test.false w.if-from-to.true)
       | else-from-to w ↦ w.result-is ∙ sym (ends_apart c.args.to c.args.count c.args.at c.loop-i.i c.loop-i.from c.args.bytes.now c.loop-i.entries c.loop-i.invariant c.loop-i-test.false w.if-from-to.false)
     ]

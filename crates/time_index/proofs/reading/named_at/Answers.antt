@@ -8,7 +8,7 @@ use Rattle.time_index.proofs.reading.named_at.Goals.{then-size-gt-MOST_NAME_BYTE
 pub returns-then-size-gt-MOST_NAME_BYTES : goal.returns-then-size-gt-MOST_NAME_BYTES
 returns-then-size-gt-MOST_NAME_BYTES c =
     elim c.then-size-gt-MOST_NAME_BYTES.branch [
-      then-size-gt-MOST_NAME_BYTES-via-then-size-gt-MOST_NAME_BYTES w ↦ sym (long_name c.args.to c.args.size c.args.count c.args.bytes.now w.if-size-gt-MOST_NAME_BYTES.true)
+      | then-size-gt-MOST_NAME_BYTES-via-then-size-gt-MOST_NAME_BYTES w ↦ sym (long_name c.args.to c.args.size c.args.count c.args.bytes.now w.if-size-gt-MOST_NAME_BYTES.true)
       | then-size-gt-MOST_NAME_BYTES-via-else-size-gt-MOST_NAME_BYTES+then-count-gt-MOST_ENTRIES w ↦ sym (many_entries c.args.to c.args.size c.args.count c.args.bytes.now w.if-count-gt-MOST_ENTRIES.true)
       | then-size-gt-MOST_NAME_BYTES-via-else-size-gt-MOST_NAME_BYTES+else-count-gt-MOST_ENTRIES+then-bytes-size w ↦ sym (other_length c.args.to c.args.size c.args.count c.args.bytes.now w.if-bytes-size.true)
     ]
