@@ -8,6 +8,7 @@ use crate::times::micros_of;
 use simdutf8::basic;
 
 /// Whether the byte alone is a cell: a null, false or true.
+#[inline(always)]
 #[tactic(auto, unfolding(block_meaning::specs::CellReading::one_byte))]
 pub(crate) fn is_one_byte(byte: u8) -> bool
     ensures { result ≡ is_some (one_byte byte) }
