@@ -20,7 +20,11 @@ fn listed(cell: &[u8]) -> Option<&[u8]>
 {
     let pair = only(13, cell)?;
     let (label, start) = var_uint(pair, 0)?;
-    if label == 7 { only(11, &pair[start..]) } else { None }
+    if label == 7 {
+        only(11, &pair[start..])
+    } else {
+        None
+    }
 }
 
 /// The cells of the texts in the content of a symbol table: the count of the annotation's bytes, the one annotation 3, and
