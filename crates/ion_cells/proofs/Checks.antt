@@ -12,7 +12,7 @@ use Rattle.ion_cells.specs.Steps.{payload_to, pair_by}
 use Rattle.block_meaning.proofs.Answered.{some_is}
 use Rattle.ion_cells.proofs.Answered.{there, not_there}
 use Rattle.block_meaning.proofs.CellSteps.{is_some_map, cell_shrinks, cells_next_some, cells_stop}
-use Rattle.ion_cells.proofs.Fronts.{cell_to_is, pair_next, pair_stop}
+use Rattle.ion_cells.proofs.PairSteps.{cell_to_is, pair_next, pair_stop}
 
 abbrev pub ends : List ℕ → Option (List ℕ)
 ends rest = Some rest

@@ -1,8 +1,9 @@
 pub mod Answered
 pub mod Bounds
 pub mod Checks
-pub mod Fronts
+pub mod Going
 pub mod Moments
+pub mod PairSteps
 pub mod Payloads
 pub mod Readers
 pub mod Signed

@@ -22,7 +22,7 @@ use Rattle.ion_cells.specs.Steps.{payload_to}
 use Rattle.ion_cells.specs.Parts.{IsAlone, HasPart}
 use Rattle.ion_cells.proofs.Answered.{there, not_there}
 use Rattle.ion_cells.proofs.Checks.{flat_payload, by_head, by_byte}
-use Rattle.ion_cells.proofs.Fronts.{cell_to_is}
+use Rattle.ion_cells.proofs.PairSteps.{cell_to_is}
 use Rattle.ion_cells.proofs.Stands.{legal_read}
 
 -- the value of a payload, by its type

@@ -13,7 +13,7 @@ use Rattle.block_meaning.specs.Numbers.{magnitude}
 use Rattle.block_meaning.specs.Timestamps.{timestamp}
 use Rattle.block_meaning.specs.Tables.{Table, last_symbol, text_of}
 use Rattle.block_meaning.specs.Cells.{IsCell}
-use Rattle.block_meaning.specs.CellReading.{head_at, is_null_byte, one_byte, cell_value, is_cell, blank_table}
+use Rattle.block_meaning.specs.CellReading.{head_at, is_null_byte, one_byte, cell_to, cells_by, pairs_by, cell_value, is_cell, blank_table}
 use Rattle.block_meaning.specs.Blocks.{payload_of, only_payload}
 use Rattle.block_meaning.proofs.TimeRange.{timestamp_is_time}
 use Rattle.block_meaning.proofs.LastSymbol.{length_blank}
@@ -21,7 +21,8 @@ use Rattle.block_meaning.proofs.Symbols.{text_of_range}
 use Rattle.ion_cells.specs.Standing.{HasLast}
 use Rattle.ion_cells.specs.Parts.{IsAlone, HasPart}
 use Rattle.ion_cells.specs.Kinds.{kind_of, kind_by_byte, kind_by_type}
-use Rattle.ion_cells.specs.Values.{int_of, truth_of, time_of, text_in}
+use Rattle.ion_cells.specs.Values.{int_of, truth_of, time_of, text_in, items_in, pairs_in}
+use Rattle.ion_cells.specs.Left.{are_items, are_fields, values_read, values_of, pairs_read, pairs_of}
 use Rattle.ion_cells.proofs.Payloads.{alone, shape, Denotes, a_whole, a_negative, a_time, a_symbol, a_text, a_list, a_struct, denotes, ByteDenotes, a_null, a_truth, byte_denotes}
 use Rattle.ion_cells.proofs.Stands.{legal_stands}
 
@@ -33,6 +34,12 @@ no_truth = None
 
 abbrev no_text : Option (List ℕ)
 no_text = None
+
+abbrev no_items : Option (List Val)
+no_items = None
+
+abbrev no_named : Option (List (List ℕ × Val))
+no_named = None
 
 abbrev no_number : Option ℕ
 no_number = None
@@ -50,6 +57,14 @@ module _ (h : ℕ) (v : Val) where
   pub byte_text : ByteDenotes h v → no_text ≡ text_in v
   byte_text (a_null n e) = rw e refl
   byte_text (a_truth b n e) = rw e refl
+
+  pub byte_items : ByteDenotes h v → no_items ≡ items_in v
+  byte_items (a_null n e) = rw e refl
+  byte_items (a_truth b n e) = rw e refl
+
+  pub byte_pairs : ByteDenotes h v → no_named ≡ pairs_in v
+  byte_pairs (a_null n e) = rw e refl
+  byte_pairs (a_truth b n e) = rw e refl
 
   pub byte_true : ByteDenotes h v → h ≡ 17 → Some true ≡ truth_of v
   byte_true (a_null n e) k = absurd (let m : is_null_byte 17 ≡ true = rw k at n in cc)
@@ -171,6 +186,42 @@ module _ (table : Table) (t : ℕ) (p : List ℕ) (v : Val) where
   other_text (a_list k vs r e) g h = rw e refl
   other_text (a_struct k fs r e) g h = rw e refl
 
+  pub list_held : Denotes table t p v → t ≡ 11 → (is_some (cells_by (cell_to table 127) (length p) p) ≡ true) × (Some (values_read (cells_by (cell_to table 127) (length p) p)) ≡ items_in v)
+  list_held (a_whole k short low e) h = absurd (omega arith)
+  list_held (a_negative k short n m low e) h = absurd (omega arith)
+  list_held (a_time k m s e) h = absurd (omega arith)
+  list_held (a_symbol k short s n e) h = absurd (omega arith)
+  list_held (a_text k u e) h = absurd (omega arith)
+  list_held (a_list k vs r e) h = (rw r refl, rw (r, e) refl)
+  list_held (a_struct k fs r e) h = absurd (omega arith)
+
+  pub struct_held : Denotes table t p v → t ≡ 13 → (is_some (pairs_by (cell_to table 127) table 10 (length p) p) ≡ true) × (Some (pairs_read (pairs_by (cell_to table 127) table 10 (length p) p)) ≡ pairs_in v)
+  struct_held (a_whole k short low e) h = absurd (omega arith)
+  struct_held (a_negative k short n m low e) h = absurd (omega arith)
+  struct_held (a_time k m s e) h = absurd (omega arith)
+  struct_held (a_symbol k short s n e) h = absurd (omega arith)
+  struct_held (a_text k u e) h = absurd (omega arith)
+  struct_held (a_list k vs r e) h = absurd (omega arith)
+  struct_held (a_struct k fs r e) h = (rw r refl, rw (r, e) refl)
+
+  pub other_items : Denotes table t p v → t ≢ 11 → no_items ≡ items_in v
+  other_items (a_whole k short low e) h = rw e refl
+  other_items (a_negative k short n m low e) h = rw e refl
+  other_items (a_time k m s e) h = rw e refl
+  other_items (a_symbol k short s n e) h = rw e refl
+  other_items (a_text k u e) h = rw e refl
+  other_items (a_list k vs r e) h = absurd (h k)
+  other_items (a_struct k fs r e) h = rw e refl
+
+  pub other_pairs : Denotes table t p v → t ≢ 13 → no_named ≡ pairs_in v
+  other_pairs (a_whole k short low e) h = rw e refl
+  other_pairs (a_negative k short n m low e) h = rw e refl
+  other_pairs (a_time k m s e) h = rw e refl
+  other_pairs (a_symbol k short s n e) h = rw e refl
+  other_pairs (a_text k u e) h = rw e refl
+  other_pairs (a_list k vs r e) h = rw e refl
+  other_pairs (a_struct k fs r e) h = absurd (h k)
+
   pub kind_held : Denotes table t p v → kind_by_type t ≡ kind_of (eqb t 7) v
   kind_held (a_whole k short low e) = rw (k, e) refl
   kind_held (a_negative k short n m low e) = rw (k, e) refl
@@ -250,6 +301,12 @@ module _ (last : ℕ) (bytes : List ℕ) where
       pub time_alone : no_int ≡ time_of (cell_value table bytes)
       time_alone = byte_time _ _ (byte_is a)
 
+      pub items_alone : no_items ≡ items_in (cell_value table bytes)
+      items_alone = byte_items _ _ (byte_is a)
+
+      pub pairs_alone : no_named ≡ pairs_in (cell_value table bytes)
+      pairs_alone = byte_pairs _ _ (byte_is a)
+
       pub text_alone : (b : Bool) → no_text ≡ cond b None (text_in (cell_value table bytes))
       text_alone true = refl
       text_alone false = byte_text _ _ (byte_is a)
@@ -295,6 +352,20 @@ module _ (last : ℕ) (bytes : List ℕ) where
               let g : t ≢ 7 = grind (arith, nat_tests) in
               other_text table t p _ (part_denotes t p q) g f
 
+      pub list_part : t ≡ 11 → Some (values_of table p) ≡ items_in (cell_value table bytes)
+      unfolding values_of
+      list_part k = (list_held table t p _ (part_denotes t p q) k).1
+
+      pub no_items_part : t ≢ 11 → no_items ≡ items_in (cell_value table bytes)
+      no_items_part f = other_items table t p _ (part_denotes t p q) f
+
+      pub struct_part : t ≡ 13 → Some (pairs_of table 10 p) ≡ pairs_in (cell_value table bytes)
+      unfolding pairs_of
+      struct_part k = (struct_held table t p _ (part_denotes t p q) k).1
+
+      pub no_pairs_part : t ≢ 13 → no_named ≡ pairs_in (cell_value table bytes)
+      no_pairs_part f = other_pairs table t p _ (part_denotes t p q) f
+
       pub symbol_range : t ≡ 7 → (10 ≤ magnitude p) × (magnitude p ≤ last_symbol table)
       symbol_range k = symbol_ranges table t p _ (part_denotes t p q) k
 
@@ -319,3 +390,13 @@ pub no_symbol_is : (last : ℕ) (bytes : List ℕ) (t : ℕ) (p : List ℕ) → 
 no_symbol_is last bytes t p q k =
     let e : eqb t 7 ≡ false = grind (arith, nat_tests) in
     rw (only_part last bytes t 7 p q, e) refl
+
+-- the payload of a list or a struct, at the cell's own last number
+module _ (last : ℕ) (bytes : List ℕ) (legal : is_cell (blank_table last) bytes ≡ true) (t : ℕ) (p : List ℕ) (q : HasPart last bytes t p) where
+  pub list_legal : t ≡ 11 → are_items last p ≡ true
+  unfolding are_items
+  list_legal k = (list_held (blank_table last) t p _ (part_denotes last bytes legal (blank_table last) (length_blank last) t p q) k).0
+
+  pub struct_legal : t ≡ 13 → are_fields last 10 p ≡ true
+  unfolding are_fields
+  struct_legal k = (struct_held (blank_table last) t p _ (part_denotes last bytes legal (blank_table last) (length_blank last) t p q) k).0

@@ -1,6 +1,7 @@
 ghost use Rattle.std.specs.Prelude.{◌≡◌, true};
 ghost use Rattle.block_meaning.specs.CellReading.{is_cell, blank_table};
 
+use crate::iterators::{Cells, Fields};
 use crate::kind::{Kind, byte_kind, payload_kind};
 use crate::numbers::magnitude;
 use crate::parts::part;
@@ -26,7 +27,8 @@ impl<'b> Cell<'b> {
     ghost use Rattle.block_meaning.specs.Blocks.{only_payload};
     ghost use Rattle.ion_cells.specs.Shown.{cell_bytes, cell_last, shown, is_symbol_cell, Fits};
     ghost use Rattle.ion_cells.specs.Kinds.{kind_of};
-    ghost use Rattle.ion_cells.specs.Values.{int_of, truth_of, time_of, text_in};
+    ghost use Rattle.ion_cells.specs.Values.{int_of, truth_of, time_of, text_in, items_in, pairs_in};
+    ghost use Rattle.ion_cells.specs.Iterating.{items_last, values_left, fields_last, pairs_left};
 
     /// The cell of these bytes, which are one and nothing else.
     #[tactic(auto, unfolding(crate::specs::Shown::cell_bytes, crate::specs::Shown::cell_last))]
@@ -119,6 +121,28 @@ impl<'b> Cell<'b> {
     {
         match part(self.bytes, self.last) {
             Some((kind, payload)) => if kind == 7 { Some(magnitude(payload) as u32) } else { None },
+            None => None,
+        }
+    }
+
+    /// The cells of the list, in order.
+    pub fn items(&self) -> Option<Cells<'b>>
+        ensures values { (table : Table) → Fits table self.now → option_map (values_left table) result ≡ items_in (shown table self.now) }
+        ensures last { IfSome result (λ s. items_last s ≡ cell_last self.now) }
+    {
+        match part(self.bytes, self.last) {
+            Some((kind, payload)) => if kind == 11 { Some(Cells::of_bytes(payload, self.last)) } else { None },
+            None => None,
+        }
+    }
+
+    /// The pairs of the struct, a label and a cell each, in order. The text of a label is its text in the symbol table.
+    pub fn fields(&self) -> Option<Fields<'b>>
+        ensures pairs { (table : Table) → Fits table self.now → option_map (pairs_left table) result ≡ pairs_in (shown table self.now) }
+        ensures last { IfSome result (λ s. fields_last s ≡ cell_last self.now) }
+    {
+        match part(self.bytes, self.last) {
+            Some((kind, payload)) => if kind == 13 { Some(Fields::of_bytes(payload, self.last)) } else { None },
             None => None,
         }
     }

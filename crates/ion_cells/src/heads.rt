@@ -1,7 +1,7 @@
 ghost use Rattle.std.specs.Prelude.{◌≡◌, ◌+◌, ◌-◌, ◌<◌, ◌≤◌, ◌^◌, length, drop, take, IfSome};
 ghost use Rattle.std.specs.Option.{option_map};
 ghost use Rattle.block_meaning.specs.CellReading.{counted, head_at};
-ghost use Rattle.block_meaning.specs.Blocks.{payload_of};
+ghost use Rattle.block_meaning.specs.Blocks.{payload_of, only_payload};
 
 use crate::numbers::var_uint;
 
@@ -17,6 +17,7 @@ pub struct CellHead {
 }
 
 /// The head of a cell of the type `kind` behind whose first byte the length of the payload stands, at least `least`.
+#[inline(always)]
 #[tactic(auto, unfolding(block_meaning::specs::CellReading::counted))]
 fn counted(bytes: &[u8], at: usize, kind: u8, least: u32) -> Option<CellHead>
     requires { at ≤ length bytes.now }
@@ -33,6 +34,7 @@ fn counted(bytes: &[u8], at: usize, kind: u8, least: u32) -> Option<CellHead>
 
 /// The head of the cell that begins at the place `at`, whose payload lies within the bytes. None where no head stands
 /// there, or where the payload would pass the end. The low nibble 15, which says null, is no head.
+#[inline(always)]
 #[tactic(auto, unfolding(block_meaning::specs::CellReading::head_at))]
 pub fn head(bytes: &[u8], at: usize) -> Option<CellHead>
     requires { at ≤ length bytes.now }
@@ -71,4 +73,14 @@ pub fn payload(kind: u8, bytes: &[u8]) -> Option<(&[u8], &[u8])>
     } else {
         None
     }
+}
+
+/// The payload of bytes that are one cell of the type `kind` and nothing else. None where they aren't; a null has no
+/// payload.
+#[tactic(auto, unfolding(block_meaning::specs::Blocks::only_payload))]
+pub fn only_payload(kind: u8, bytes: &[u8]) -> Option<&[u8]>
+    ensures { option_map (λ p. p.now) result ≡ only_payload kind bytes.now }
+{
+    let (content, rest) = payload(kind, bytes)?;
+    if rest.is_empty() { Some(content) } else { None }
 }
