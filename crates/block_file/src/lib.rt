@@ -5,6 +5,8 @@ mod block;
 mod fault;
 mod opening;
 mod rows;
+#[cfg(test)]
+mod tests;
 
 pub use block::Block;
 pub use fault::BlockFault;
