@@ -48,7 +48,7 @@ read_table table bytes rest at h e =
       rise = (w.2).rise;
       few = omega (arith, table_few table w.0 w.2);
       behind = omega arith;
-      within = omega arith
+      within = omega arith;
     }
 
 no_table : (bytes : List ℕ) → table_at bytes ≡ None → (table : Table) (rest : List ℕ) → HasFront (IsTable table) bytes rest → ⊥

@@ -5,6 +5,8 @@ mod fault;
 mod parts;
 mod reading;
 mod table;
+#[cfg(test)]
+mod tests;
 mod texts;
 
 pub use fault::TabFault;

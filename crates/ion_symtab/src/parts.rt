@@ -1,26 +1,21 @@
 ghost use Rattle.std.specs.Prelude.{◌≡◌};
 ghost use Rattle.std.specs.Option.{option_map};
-ghost use Rattle.block_meaning.specs.Blocks.{only_payload, listed_in, texts_in};
+ghost use Rattle.block_meaning.specs.Blocks.{listed_in, texts_in};
 
-use ion_cells::{payload, var_uint};
-
-/// The payload of bytes that are one cell of the type `kind`.
-#[tactic(auto, unfolding(block_meaning::specs::Blocks::only_payload))]
-fn only(kind: u8, bytes: &[u8]) -> Option<&[u8]>
-    ensures { option_map (λ p. p.now) result ≡ only_payload kind bytes.now }
-{
-    let (inner, rest) = payload(kind, bytes)?;
-    if rest.is_empty() { Some(inner) } else { None }
-}
+use ion_cells::{only_payload, var_uint};
 
 /// The cells of the texts in the struct of the one pair 7 that the bytes are.
 #[tactic(auto, unfolding(block_meaning::specs::Blocks::listed_in))]
 fn listed(cell: &[u8]) -> Option<&[u8]>
     ensures { option_map (λ p. p.now) result ≡ listed_in cell.now }
 {
-    let pair = only(13, cell)?;
+    let pair = only_payload(13, cell)?;
     let (label, start) = var_uint(pair, 0)?;
-    if label == 7 { only(11, &pair[start..]) } else { None }
+    if label == 7 {
+        only_payload(11, &pair[start..])
+    } else {
+        None
+    }
 }
 
 /// The cells of the texts in the content of a symbol table: the count of the annotation's bytes, the one annotation 3, and

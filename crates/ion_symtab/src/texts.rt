@@ -55,7 +55,11 @@ fn text_at<'b>(bytes: &'b [u8], at: usize, before: Option<&str>) -> Option<(&'b 
 {
     let (payload, end) = text_bytes(bytes, at)?;
     let text = as_text(payload)?;
-    if is_rising(before, text) { Some((text, end)) } else { None }
+    if is_rising(before, text) {
+        Some((text, end))
+    } else {
+        None
+    }
 }
 
 /// The texts of the string cells that the bytes are, end to end. Each text is above the one before.

@@ -4,7 +4,7 @@ use Rattle.block_meaning.specs.Tables.{Table}
 use Rattle.block_meaning.specs.Blocks.{IsTable, table_at}
 use Rattle.block_meaning.specs.Laws.{HasFront}
 use Rattle.ion_symtab.specs.declared.fault.TabFault.TheVariants as TabFault
-use Rattle.ion_symtab.proofs.TableRead.{ read_tail, no_tail}
+use Rattle.ion_symtab.proofs.TableRead.{read_tail, no_tail}
 use Rattle.ion_symtab.proofs.reading.read.Goals as goal
 
 abbrev text : Bor (List ℕ) → List ℕ

@@ -10,5 +10,5 @@ pub loop-at-preserved : goal.loop-at-preserved
 loop-at-preserved c = record {
   read =
       lent_step _ c.loop-at.texts.items c.push.new.self.items _ (drop c.loop-at.at c.args.cells.now) c.in-Some.text (drop c.in-Some.end c.args.cells.now) c.loop-at.invariant.read c.in-Some.ensures.text c.in-Ok.ensures.items;
-  within = c.in-Some.ensures.within.1
+  within = c.in-Some.ensures.within.1;
 }
