@@ -42,9 +42,9 @@ impl<'r, R: rt::Files> HostFiles<'r, R> {
 }
 
 impl<R: rt::Files> Files for HostFiles<'_, R> {
-    ghost use Rattle.std.specs.Prelude.{None};
+    ghost use Rattle.snel_device.specs.Untold.{untold_files};
 
-    ghost told = { λ _. None };
+    ghost told = { λ _. untold_files };
 
     ghost read_faults = { λ s. s.read_faults };
 

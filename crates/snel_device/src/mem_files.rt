@@ -78,6 +78,8 @@ impl MemFiles {
     }
 }
 
+// Each call has the clauses of `Files` at the files that are told here, and after them those on the
+// schedule.
 impl Files for MemFiles {
     ghost use Rattle.std.specs.Prelude.{Some};
     ghost use Rattle.snel_device.specs.MemFiles.{stored, schedule};

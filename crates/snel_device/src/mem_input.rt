@@ -51,6 +51,8 @@ impl MemInput {
     }
 }
 
+// The clauses of `Input` at the bytes that are told here, and after them those on how many bytes
+// come and on the schedule.
 impl Input for MemInput {
     ghost use Rattle.std.specs.Prelude.{Some};
     ghost use Rattle.snel_device.specs.MemInput.{unread, most_per_call, schedule};

@@ -58,6 +58,7 @@ impl MemOut {
     }
 }
 
+// The clauses of `Out` at the bytes that are told here, and after them those on the schedule.
 impl Out for MemOut {
     ghost use Rattle.std.specs.Prelude.{Some};
     ghost use Rattle.snel_device.specs.MemOut.{put_bytes, calls_made, failing_calls, kept_next, Keeps};

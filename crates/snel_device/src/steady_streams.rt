@@ -24,6 +24,7 @@ impl<'a> SteadyInput<'a> {
     }
 }
 
+// The clauses of `Input` at the bytes that are told here, and after them how many come.
 impl Input for SteadyInput<'_> {
     ghost use Rattle.std.specs.Prelude.{Some};
     ghost use Rattle.snel_device.specs.SteadyStreams.{unread};
@@ -72,10 +73,10 @@ impl SteadyOut {
 }
 
 impl Out for SteadyOut {
-    ghost use Rattle.std.specs.Prelude.{None};
+    ghost use Rattle.snel_device.specs.Untold.{untold_bytes};
     ghost use Rattle.snel_device.specs.SteadyStreams.{put_count};
 
-    ghost holds = { λ _. None };
+    ghost holds = { λ _. untold_bytes };
 
     ghost faults = { λ _. 0 };
 
