@@ -1,8 +1,7 @@
-ghost use Rattle.std.specs.Prelude.{◌≡◌, ◌↔◌, ◌<◌, ◌≤◌, ◌++◌, ℕ, List, [], min, length, take, drop, replicate, Option, IfOk, OnOk, OnErr, IsOk, IsErr, IsErrOf, IsSome, IfSome, IsNone, IsSomeAnd, IsTrue, MatchOption, option_copied};
+ghost use Rattle.std.specs.Prelude.{◌≡◌, ◌↔◌, ℕ, [], length, take, IfOk, OnOk, OnErr, IsErr, IsErrOf, IsSome, IsSomeAnd, MatchOption};
 ghost use Rattle.std.specs.Option.{ForSome};
-ghost use Rattle.std.specs.Io.KnownBytes.{Appends, Consumes, IsAtEnd};
 ghost use Rattle.snel_device.specs.Causes.{HasCause, Takes, raised};
-ghost use Rattle.snel_device.specs.Contents.{with_file, with_piece, IsWithin, HasAt, Sets, Extends};
+ghost use Rattle.snel_device.specs.Contents.{HasAt, Sets, Extends};
 
 use crate::pieces::fill_padded;
 use crate::{Failed, Files, FreshFault, MemFiles, SizeFault};
