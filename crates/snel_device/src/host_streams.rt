@@ -15,7 +15,9 @@ pub struct HostInput<R: Read> {
 
 impl<R: Read> HostInput<R> {
     /// What this reader gives. The count of faults starts at 0.
-    pub fn new(inner: R) -> Self {
+    pub fn new(inner: R) -> Self
+        ensures { ⟦<HostInput<R> as Input>⟧.faults result ≡ 0 }
+    {
         HostInput { inner, faults: 0 }
     }
 }
@@ -55,7 +57,9 @@ pub struct HostOut<W: Write> {
 
 impl<W: Write> HostOut<W> {
     /// What is put goes to this writer. The count of faults starts at 0.
-    pub fn new(inner: W) -> Self {
+    pub fn new(inner: W) -> Self
+        ensures { ⟦<HostOut<W> as Out>⟧.faults result ≡ 0 }
+    {
         HostOut { inner, faults: 0 }
     }
 }
