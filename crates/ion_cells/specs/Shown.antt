@@ -1,5 +1,5 @@
 -- What a borrowed cell shows.
-use Rattle.std.specs.Prelude.{◌≡◌, ℕ, ◌-◌, Bool, List, length, is_some}
+use Rattle.std.specs.Prelude.{ℕ, Bool, List, Option, Some, is_some}
 use Rattle.value_meaning.specs.Val.{Val}
 use Rattle.block_meaning.specs.Tables.{Table}
 use Rattle.block_meaning.specs.CellReading.{cell_value}
@@ -26,3 +26,7 @@ shown table cell = cell_value table (cell_bytes cell)
 -- a text's number stands in the cell, and not its bytes
 unfoldable pub is_symbol_cell : Cell → Bool
 is_symbol_cell cell = is_some (only_payload 7 (cell_bytes cell))
+
+-- what the reader answers for the cell and what follows it
+abbrev pub shown_before : Table → Cell → List ℕ → Option (Val × List ℕ)
+shown_before table cell rest = Some (shown table cell, rest)

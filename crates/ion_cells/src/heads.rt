@@ -1,7 +1,7 @@
 ghost use Rattle.std.specs.Prelude.{◌≡◌, ◌+◌, ◌-◌, ◌<◌, ◌≤◌, ◌^◌, length, drop, take, IfSome};
 ghost use Rattle.std.specs.Option.{option_map};
 ghost use Rattle.block_meaning.specs.CellReading.{counted, head_at};
-ghost use Rattle.block_meaning.specs.Blocks.{payload_of};
+ghost use Rattle.block_meaning.specs.Blocks.{payload_of, only_payload};
 
 use crate::numbers::var_uint;
 
@@ -71,4 +71,14 @@ pub fn payload(kind: u8, bytes: &[u8]) -> Option<(&[u8], &[u8])>
     } else {
         None
     }
+}
+
+/// The payload of bytes that are one cell of the type `kind` and nothing else. None where they aren't; a null has no
+/// payload.
+#[tactic(auto, unfolding(block_meaning::specs::Blocks::only_payload))]
+pub fn only_payload(kind: u8, bytes: &[u8]) -> Option<&[u8]>
+    ensures { option_map (λ p. p.now) result ≡ only_payload kind bytes.now }
+{
+    let (content, rest) = payload(kind, bytes)?;
+    if rest.is_empty() { Some(content) } else { None }
 }

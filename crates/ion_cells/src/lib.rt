@@ -14,7 +14,7 @@ mod scalars;
 mod times;
 
 pub use cell::Cell;
-pub use heads::{CellHead, head, payload};
+pub use heads::{CellHead, head, only_payload, payload};
 pub use iterators::{Cells, Fields};
 pub use kind::Kind;
 pub use numbers::{magnitude, var_uint};

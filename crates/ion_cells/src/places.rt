@@ -1,9 +1,9 @@
-ghost use Rattle.std.specs.Prelude.{◌≡◌, ◌+◌, ◌-◌, ◌<◌, ◌≤◌, ◌^◌, Some, None, length, drop, take, IfOk, OnErr};
+ghost use Rattle.std.specs.Prelude.{◌≡◌, ◌+◌, ◌-◌, ◌<◌, ◌≤◌, ◌^◌, Some, None, length, drop, take, IfOk, OnErr, MatchResult};
 ghost use Rattle.block_meaning.specs.Tables.{Table};
 ghost use Rattle.block_meaning.specs.Cells.{IsCell};
-ghost use Rattle.block_meaning.specs.Laws.{HasFront};
-ghost use Rattle.ion_cells.specs.Standing.{HasLast, StandsBetween, StandsNowhere};
-ghost use Rattle.ion_cells.specs.Shown.{cell_bytes, cell_last, shown};
+ghost use Rattle.block_meaning.specs.CellReading.{cell_to};
+ghost use Rattle.ion_cells.specs.Standing.{HasLast, StandsBetween, StandsNowhere, Reads};
+ghost use Rattle.ion_cells.specs.Shown.{cell_bytes, cell_last, shown, shown_before};
 
 use crate::cell::Cell;
 use crate::check::check_to;
@@ -21,6 +21,10 @@ pub fn check_cell(bytes: &[u8], at: u32, last_symbol: u32, depth: u8) -> Result<
     ensures stands { IfOk result (λ e. StandsBetween last_symbol depth bytes.now at e) }
     ensures within { IfOk result (λ e. (at < e) × (e ≤ length bytes.now)) }
     ensures bad { OnErr result (StandsNowhere last_symbol depth bytes.now at) }
+
+    // The same, as reading from left to right answers it.
+    ensures read { MatchResult result (λ e. Reads last_symbol depth bytes.now at (Some (drop e bytes.now)))
+        (λ _. Reads last_symbol depth bytes.now at None) }
 {
     match check_to(bytes, at as usize, last_symbol, 128u8.saturating_sub(depth)) {
         Some(end) => Ok(end as u32),
@@ -37,6 +41,8 @@ pub fn cell_at<'b>(bytes: &'b [u8], at: u32, last_symbol: u32) -> Result<Cell<'b
     ensures last { IfOk result (λ c. cell_last c ≡ last_symbol) }
     ensures stands { IfOk result (λ c. (cell_bytes c ≡ take (length (cell_bytes c)) (drop at bytes.now))
         × (at + length (cell_bytes c) ≤ length bytes.now)) }
+    ensures read { IfOk result (λ c. (table : Table) → HasLast table last_symbol
+        → cell_to table 128 (drop at bytes.now) ≡ shown_before table c (drop (at + length (cell_bytes c)) bytes.now)) }
     ensures shows { IfOk result (λ c. (table : Table) → HasLast table last_symbol → IsCell table 0 (shown table c) (cell_bytes c)) }
     ensures bad { OnErr result (StandsNowhere last_symbol 0 bytes.now at) }
 {
