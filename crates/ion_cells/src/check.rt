@@ -9,6 +9,7 @@ use crate::scalars::{is_one_byte, is_scalar, is_symbol};
 
 /// The place after the cell that begins at the place `at`, within which lists and structs may stand `room` deep. The
 /// last number of the table is `last`.
+#[inline(always)]
 #[cycle(check)]
 pub(crate) fn check_to(bytes: &[u8], at: usize, last: u32, room: u8) -> Option<usize>
     requires { at ≤ length bytes.now }
@@ -27,6 +28,7 @@ pub(crate) fn check_to(bytes: &[u8], at: usize, last: u32, room: u8) -> Option<u
 }
 
 /// Whether the payload is one of its type, within which lists and structs may stand `room` deep.
+#[inline(always)]
 #[cycle(check)]
 #[tactic(auto, unfolding(crate::specs::Steps::payload_to))]
 fn is_payload(kind: u8, payload: &[u8], last: u32, room: u8) -> bool
@@ -44,6 +46,7 @@ fn is_payload(kind: u8, payload: &[u8], last: u32, room: u8) -> bool
 }
 
 /// Whether the bytes are cells, end to end.
+#[inline(never)]
 #[cycle(check)]
 fn are_cells(bytes: &[u8], last: u32, room: u8) -> bool
     ensures { result ≡ is_some (cells_by (cell_to (blank_table last) room) (length bytes.now) bytes.now) }
@@ -59,6 +62,7 @@ fn are_cells(bytes: &[u8], last: u32, room: u8) -> bool
 }
 
 /// Whether the bytes are pairs of a label and a cell, end to end, the labels strictly increasing from 10 on.
+#[inline(never)]
 #[cycle(check)]
 fn are_pairs(bytes: &[u8], last: u32, room: u8) -> bool
     ensures { result ≡ is_some (pairs_by (cell_to (blank_table last) room) (blank_table last) 10 (length bytes.now) bytes.now) }
@@ -78,6 +82,7 @@ fn are_pairs(bytes: &[u8], last: u32, room: u8) -> bool
 }
 
 /// The label of the pair that begins at the place `at`, which is `low` or more, and the place after the pair.
+#[inline(always)]
 #[cycle(check)]
 #[tactic(auto, unfolding(crate::specs::Steps::pair_by))]
 fn check_pair(bytes: &[u8], at: usize, low: u32, last: u32, room: u8) -> Option<(u32, usize)>

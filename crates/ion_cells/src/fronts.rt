@@ -12,6 +12,7 @@ use crate::numbers::var_uint;
 use crate::scalars::is_one_byte;
 
 /// The place after the first cell, by its head alone.
+#[inline(always)]
 #[tactic(auto, unfolding(crate::specs::Left::behind_cell))]
 fn end_of(bytes: &[u8]) -> Option<usize>
     ensures end { option_map (λ e. drop e bytes.now) result ≡ behind_cell bytes.now }
@@ -28,6 +29,7 @@ fn end_of(bytes: &[u8]) -> Option<usize>
 }
 
 /// The first of the cells, and the others. None where there is none.
+#[inline(always)]
 pub(crate) fn first_item(bytes: &[u8], last: u32) -> Option<(Cell<'_>, &[u8])>
     requires { are_items last bytes.now ≡ true }
     ensures item { IfSome result (λ p. (cell_last p.0 ≡ last) × (are_items last p.1.now ≡ true)) }
@@ -45,6 +47,7 @@ pub(crate) fn first_item(bytes: &[u8], last: u32) -> Option<(Cell<'_>, &[u8])>
 
 /// The label and the cell of the first of the pairs, whose labels rise from `low` on, and the others. None where there is
 /// none.
+#[inline(always)]
 pub(crate) fn first_field(bytes: &[u8], last: u32, low: u32) -> Option<(u32, Cell<'_>, &[u8])>
     requires { are_fields last low bytes.now ≡ true }
     ensures label { IfSome result (λ p. (low ≤ p.0) × (10 ≤ p.0) × (p.0 ≤ last) × (p.0 < 2 ^ 28)) }

@@ -17,6 +17,7 @@ pub struct CellHead {
 }
 
 /// The head of a cell of the type `kind` behind whose first byte the length of the payload stands, at least `least`.
+#[inline(always)]
 #[tactic(auto, unfolding(block_meaning::specs::CellReading::counted))]
 fn counted(bytes: &[u8], at: usize, kind: u8, least: u32) -> Option<CellHead>
     requires { at ≤ length bytes.now }
@@ -33,6 +34,7 @@ fn counted(bytes: &[u8], at: usize, kind: u8, least: u32) -> Option<CellHead>
 
 /// The head of the cell that begins at the place `at`, whose payload lies within the bytes. None where no head stands
 /// there, or where the payload would pass the end. The low nibble 15, which says null, is no head.
+#[inline(always)]
 #[tactic(auto, unfolding(block_meaning::specs::CellReading::head_at))]
 pub fn head(bytes: &[u8], at: usize) -> Option<CellHead>
     requires { at ≤ length bytes.now }

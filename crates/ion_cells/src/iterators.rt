@@ -40,6 +40,7 @@ impl<'b> Iterator for Cells<'b> {
 
     ghost remaining = { item_count (λ s. values_left (blank_table (items_last s)) s) };
 
+    #[inline(always)]
     fn next(&mut self) -> Option<Cell<'b>> {
         let (cell, others) = first_item(self.rest, self.last)?;
         self.rest = others;
@@ -84,6 +85,7 @@ impl<'b> Iterator for Fields<'b> {
 
     ghost remaining = { item_count (λ s. pairs_left (blank_table (fields_last s)) s) };
 
+    #[inline(always)]
     fn next(&mut self) -> Option<(u32, Cell<'b>)> {
         let (label, cell, others) = first_field(self.rest, self.last, self.low)?;
         self.rest = others;

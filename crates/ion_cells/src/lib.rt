@@ -11,6 +11,8 @@ mod numbers;
 mod parts;
 mod places;
 mod scalars;
+#[cfg(test)]
+mod tests;
 mod times;
 
 pub use cell::Cell;

@@ -4,6 +4,7 @@ ghost use Rattle.block_meaning.specs.Numbers as spec;
 
 /// The VarUInt that begins at the place `at`, and the place after it: one to four bytes of seven bits, the most
 /// significant first, the high bit set on the last byte alone. None where none begins there.
+#[inline(always)]
 pub fn var_uint(bytes: &[u8], at: usize) -> Option<(u32, usize)>
     requires { at ≤ length bytes.now }
     ensures number { option_map (λ x. (x.0, drop x.1 bytes.now)) result ≡ spec.var_uint (drop at bytes.now) }
@@ -56,12 +57,13 @@ fn next_in(bytes: &[u8], room: usize, so_far: u32) -> Option<(u32, &[u8])>
 }
 
 /// The VarUInt at the front, and what follows it.
-#[tactic(auto, unfolding(block_meaning::specs::Numbers::var_uint))]
+#[inline(always)]
 pub(crate) fn next_uint(bytes: &[u8]) -> Option<(u32, &[u8])>
     ensures number { option_map (λ x. (x.0, x.1.now)) result ≡ spec.var_uint bytes.now }
     ensures small { IfSome result (λ x. x.0 < 2 ^ 28) }
 {
-    next_in(bytes, 4, 0)
+    let (number, end) = var_uint(bytes, 0)?;
+    Some((number, &bytes[end..]))
 }
 
 /// Whether the VarInt at the front is negative, its size, and what follows it. Bit 6 of its first byte is the sign.

@@ -6,6 +6,7 @@ use crate::heads::head;
 use crate::scalars::is_one_byte;
 
 /// The type and the payload of the cell that the bytes are, None where it is one byte alone: a null, false or true.
+#[inline(always)]
 pub(crate) fn part(bytes: &[u8], last: u32) -> Option<(u8, &[u8])>
     requires { is_cell (blank_table last) bytes.now ≡ true }
     ensures { MatchOption result (IsAlone last bytes.now) (λ p. HasPart last bytes.now p.0 p.1.now) }

@@ -8,6 +8,7 @@ use crate::times::micros_of;
 use simdutf8::basic;
 
 /// Whether the byte alone is a cell: a null, false or true.
+#[inline(always)]
 #[tactic(auto, unfolding(block_meaning::specs::CellReading::one_byte))]
 pub(crate) fn is_one_byte(byte: u8) -> bool
     ensures { result ≡ is_some (one_byte byte) }
@@ -16,6 +17,7 @@ pub(crate) fn is_one_byte(byte: u8) -> bool
 }
 
 /// Whether the bytes are UTF-8.
+#[inline(never)]
 pub(crate) fn is_text(bytes: &[u8]) -> bool
     ensures { result ≡ is_utf8 bytes.now }
 {
@@ -26,6 +28,7 @@ pub(crate) fn is_text(bytes: &[u8]) -> bool
 }
 
 /// Whether a table whose last number is `last` has a text of this number.
+#[inline(always)]
 pub(crate) fn is_symbol(number: u64, last: u32) -> bool
     ensures { result ≡ is_some (text_of (blank_table last) number) }
 {
@@ -33,6 +36,7 @@ pub(crate) fn is_symbol(number: u64, last: u32) -> bool
 }
 
 /// Whether the payload is one of its type, which holds no cells.
+#[inline(always)]
 #[tactic(auto, unfolding(block_meaning::specs::CellReading::scalar))]
 pub(crate) fn is_scalar(kind: u8, payload: &[u8], last: u32) -> bool
     ensures { result ≡ is_some (scalar (blank_table last) kind payload.now) }

@@ -43,6 +43,9 @@ fn cut(places: u32, bytes: &[u8]) -> Option<u32>
     if coefficient >= scale {
         return None;
     }
+    if places == 6 {
+        return Some(coefficient as u32);
+    }
     Some((u128::from(coefficient) * 1_000_000 / u128::from(scale)) as u32)
 }
 
@@ -78,6 +81,7 @@ fn moment_of(year: u32, month: u32, day: u32, hour: u32, minute: u32, second: u3
 }
 
 /// The microseconds from 1970-01-01T00:00:00Z on of the time that the payload of a timestamp denotes.
+#[inline(never)]
 #[tactic(auto, unfolding(block_meaning::specs::Timestamps::timestamp))]
 pub(crate) fn micros_of(payload: &[u8]) -> Option<i64>
     ensures { result ≡ spec.timestamp payload.now }
