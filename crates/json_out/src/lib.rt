@@ -1,0 +1,10 @@
+//! Lines out: rows as JSON objects (RFC 8259), written straight from their cells with no value built for a row.
+#![tactic(auto)]
+
+mod clock;
+mod lines;
+mod texts;
+mod times;
+mod values;
+
+pub use lines::{append_row, row_line};

@@ -1,0 +1,112 @@
+ghost use Rattle.std.specs.Prelude.{◌≡◌, ◌++◌, OnOk};
+ghost use Rattle.std.specs.Fmt.{signed_decimal};
+ghost use Rattle.value_meaning.specs.Val.{list, struct, vals, fields};
+ghost use Rattle.answer_meaning.specs.Lines.{value_text};
+ghost use Rattle.ion_cells.specs.Standing.{HasLast};
+ghost use Rattle.ion_cells.specs.Shown.{Fits, shown};
+ghost use Rattle.ion_cells.specs.Iterating.{items_last, values_left, fields_last, pairs_left};
+
+use crate::texts::put_quoted;
+use crate::times::put_time;
+use ion_cells::{Cell, Cells, Fields, Kind};
+use ion_symtab::SymTab;
+use itoa::Buffer;
+use snel_values::{Bytes, OutOfMemory};
+
+/// Adds the number's decimal digits, behind a `-` where it is negative.
+fn put_number(into: &mut Bytes, number: i64) -> Result<(), OutOfMemory>
+    ensures { OnOk result (into.new ≡ into.old ++ signed_decimal number) }
+{
+    let mut digits = Buffer::new();
+    into.push_all(digits.format(number).as_bytes())
+}
+
+/// Adds the text of the cell's value.
+#[cycle(values)]
+pub(crate) fn put_value(
+    into: &mut Bytes,
+    table: &SymTab<'_>,
+    cell: &Cell<'_>,
+) -> Result<(), OutOfMemory>
+    requires { Fits table.now cell.now }
+    ensures { OnOk result (into.new ≡ into.old ++ value_text (shown table.now cell.now)) }
+{
+    let _ = cell.bytes();
+    match cell.kind() {
+        Kind::Null => into.push_all(b"null"),
+        Kind::Bool => match cell.boolean() {
+            Some(true) => into.push_all(b"true"),
+            Some(false) => into.push_all(b"false"),
+            None => unreachable!(),
+        },
+        Kind::Int => match cell.int() {
+            Some(number) => put_number(into, number),
+            None => unreachable!(),
+        },
+        Kind::Time => match cell.micros() {
+            Some(time) => put_time(into, time),
+            None => unreachable!(),
+        },
+        Kind::Text => match cell.text() {
+            Some(text) => put_quoted(into, text),
+            None => unreachable!(),
+        },
+        Kind::Symbol => match cell.symbol() {
+            Some(number) => match table.text_of(number) {
+                Some(name) => put_quoted(into, name),
+                None => unreachable!(),
+            },
+            None => unreachable!(),
+        },
+        Kind::List => match cell.items() {
+            Some(cells) => put_list(into, table, cells),
+            None => unreachable!(),
+        },
+        Kind::Struct => match cell.fields() {
+            Some(pairs) => put_struct(into, table, pairs),
+            None => unreachable!(),
+        },
+    }
+}
+
+/// Adds the text of the list of these cells.
+#[cycle(values)]
+fn put_list(into: &mut Bytes, table: &SymTab<'_>, mut cells: Cells<'_>) -> Result<(), OutOfMemory>
+    requires { HasLast table.now (items_last cells) }
+    ensures { OnOk result (into.new ≡ into.old ++ value_text (list (vals (values_left table.now cells.entry)))) }
+{
+    into.push_all(b"[")?;
+    let mut later = false;
+    'items: while let Some(cell) = cells.next() {
+        if later {
+            into.push_all(b",")?;
+        }
+        put_value(into, table, &cell)?;
+        later = true;
+    }
+    into.push_all(b"]")
+}
+
+/// Adds the text of the struct of these pairs.
+#[cycle(values)]
+fn put_struct(
+    into: &mut Bytes,
+    table: &SymTab<'_>,
+    mut pairs: Fields<'_>,
+) -> Result<(), OutOfMemory>
+    requires { HasLast table.now (fields_last pairs) }
+    ensures { OnOk result (into.new ≡ into.old ++ value_text (struct (fields (pairs_left table.now pairs.entry)))) }
+{
+    into.push_all(b"{")?;
+    let mut later = false;
+    'pairs: while let Some((label, cell)) = pairs.next() {
+        if later {
+            into.push_all(b",")?;
+        }
+        put_quoted(into, table.text_of(label).unwrap_or(""))?;
+        into.push_all(b":")?;
+        put_value(into, table, &cell)?;
+        later = true;
+    }
+    into.push_all(b"}")
+}
