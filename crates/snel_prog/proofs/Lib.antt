@@ -1,0 +1,6 @@
+mod Sink
+mod Verdicts
+mod OneBlock
+mod BlockEnds
+mod Statuses
+mod Headlines

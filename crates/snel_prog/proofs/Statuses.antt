@@ -1,0 +1,125 @@
+-- When each status comes.
+use Rattle.std.proofs.Common.{◌≡◌, ◌⊎◌, inl, inr, ℕ, List, [], ◌∷◌, Bool, true, false, eqb, Option, Some, None, Result, Ok, Err, refl, ap, sym, subst, ◌∙◌, arith}
+use Rattle.std.proofs.lemmas.Bool.Decides.{nat_tests}
+use Rattle.std.specs.Prelude.{IsSomeAnd, IfSome, IsTrue, ◌==◌, if◌then◌else◌}
+use Rattle.std.specs.List.{list_any}
+use Rattle.snel_device.specs.Contents.{Contents}
+use Rattle.snel_prog.specs.declared.refusal.Refusal.{Refusal}
+use Rattle.snel_prog.specs.declared.refusal.Refusal.TheVariants.{Words, Query, Absent, NotAFile, Damaged, ReadFault, WriteFault, OutOfMemory}
+use Rattle.snel_prog.specs.Words.{Ask, nothing, query, is_built}
+use Rattle.snel_prog.specs.Statuses.{status_of, status_after}
+use Rattle.snel_prog.specs.Verdicts.{Verdict, no_command, no_query, no_such_file, no_block_file, bad_block, rows, unknown, Allows, EndsAs, Exactly, ExactlyOnceRead}
+use Rattle.snel_prog.specs.Causes.{HasNoBlock, HasBadBlock, FindsInFile, Finds, Ends, OfFile}
+use Rattle.snel_prog.specs.Refusals.{Says, HasItsCause}
+
+-- the refusal of a status
+abbrev refusal_of : ℕ → Refusal
+refusal_of k =
+    if k == 2 then Words else (if k == 3 then Query else (if k == 4 then Absent else (if k == 5 then NotAFile else
+    (if k == 6 then Damaged else (if k == 8 then ReadFault else (if k == 9 then WriteFault else OutOfMemory))))))
+
+back : (r : Refusal) → refusal_of (status_of r) ≡ r
+back Words = refl
+back Query = refl
+back Absent = refl
+back NotAFile = refl
+back Damaged = refl
+back ReadFault = refl
+back WriteFault = refl
+back OutOfMemory = refl
+
+-- a call that ended with a refusal's status was refused so
+pub refused_by : (r : Result (Unit {0}) Refusal) (s : Refusal) → status_after r ≡ status_of s → (status_of s ≡ 0 → ⊥) → r ≡ Err s
+refused_by (Ok u) s e other = absurd (other (sym e))
+refused_by (Err r) s e other = ap (λ (x : Refusal). Err x) (sym (back r) ∙ ap refusal_of e ∙ back s)
+
+-- a status among those of a verdict
+one_of : (n a : ℕ) (ss : List ℕ) → IsTrue (list_any (λ s. s == n) (a ∷ ss)) → (n ≡ a) ⊎ IsTrue (list_any (λ s. s == n) ss)
+one_of n a ss h = go (eqb a n) refl
+  where
+    go : (b : Bool) → eqb a n ≡ b → (n ≡ a) ⊎ IsTrue (list_any (λ s. s == n) ss)
+    go true e = inl (grind (arith, nat_tests))
+    go false e = inr (rw e at h)
+
+one_of_two : (n a b : ℕ) → IsTrue (list_any (λ s. s == n) (a ∷ b ∷ [])) → (n ≡ a) ⊎ (n ≡ b)
+one_of_two n a b h = elim (one_of n a (b ∷ []) h) [
+  | inl x ↦ inl x
+  | inr y ↦ elim (one_of n b [] y) [ inl z ↦ inr z | inr none ↦ absurd (cc) ]
+]
+
+-- 8 stands first among them, and the status may be it
+one_of_three : (n a b : ℕ) → IsTrue (list_any (λ s. s == n) (8 ∷ a ∷ b ∷ [])) → (n ≡ a) ⊎ ((n ≡ 8) ⊎ (n ≡ b))
+one_of_three n a b h = elim (one_of n 8 (a ∷ b ∷ []) h) [
+  | inl x ↦ inr (inl x)
+  | inr y ↦ elim (one_of_two n a b y) [ inl z ↦ inl z | inr z ↦ inr (inr z) ]
+]
+
+-- 8 and 9 stand first among them, and the status may be neither
+pub done_or_memory : (n : ℕ) → (n ≡ 8 → ⊥) → (n ≡ 9 → ⊥) → IsTrue (list_any (λ s. s == n) (8 ∷ 9 ∷ 0 ∷ 10 ∷ [])) → (n ≡ 0) ⊎ (n ≡ 10)
+done_or_memory n no_read no_write h = elim (one_of n 8 (9 ∷ 0 ∷ 10 ∷ []) h) [
+  | inl x ↦ absurd (no_read x)
+  | inr y ↦ elim (one_of n 9 (0 ∷ 10 ∷ []) y) [ inl x ↦ absurd (no_write x) | inr z ↦ one_of_two n 0 10 z ]
+]
+
+-- How a call ended: with what result and status, and as the verdicts allow.
+pub record Ended (ask : Ask) (told : Option Contents) (r : Result (Unit {0}) Refusal) (status : ℕ) (old new : Option (List ℕ)) : Type 0 where
+  pub is : status ≡ status_after r
+  pub ends : Ends ask told status old new
+  pub cause : HasItsCause ask told r
+
+module _ (told : Option Contents) (r : Result (Unit {0}) Refusal) (status : ℕ) (old new : Option (List ℕ)) where
+  said : (ask : Ask) (s : Refusal) → Ended ask told r status old new → status ≡ status_of s → (status_of s ≡ 0 → ⊥) → Says ask told s
+  said ask s h e other = let is = refused_by r s (sym h.is ∙ e) other in let cause = h.cause in rw is at cause
+
+  pub bad_words : (ask : Ask) → Ended ask told r status old new → Exactly 2 status (ask ≡ nothing)
+  bad_words nothing h = record { only = λ e. refl; always = λ e. one_of_two status 2 10 (h.ends no_command tt).allowed }
+  bad_words (query sql name) h = record { only = λ e. absurd ((said (query sql name) Words h e (λ z. omega arith)).1); always = λ e. absurd (cc) }
+
+  pub bad_query : (sql name : List ℕ) → Ended (query sql name) told r status old new → Exactly 3 status (is_built sql ≡ false)
+  bad_query sql name h = record {
+    only = λ e. said (query sql name) Query h e (λ z. omega arith);
+    always = λ e. one_of_two status 3 10 (h.ends no_query e).allowed;
+  }
+
+module _ (sql name : List ℕ) (files : Contents) (r : Result (Unit {0}) Refusal) (status : ℕ) (old new : Option (List ℕ)) (h : Ended (query sql name) (Some files) r status old new) (built : is_built sql ≡ true) where
+  absent_exactly : Exactly 4 status (files name ≡ None)
+  absent_exactly = record {
+    only = λ e. (said (Some files) r status old new (query sql name) Absent h e (λ z. omega arith)).1;
+    always = λ e. let P : Option (List ℕ) → Type 0 = λ o. FindsInFile o no_such_file in one_of_two status 4 10 (h.ends no_such_file (built, subst P (sym e) tt)).allowed;
+  }
+
+  no_block_exactly : (o : Option (List ℕ)) → files name ≡ o → IfSome o (λ bytes. ExactlyOnceRead 5 status (HasNoBlock bytes))
+  no_block_exactly None is = tt
+  no_block_exactly (Some bytes) is =
+      let Q : Option (List ℕ) → Type 0 = λ o. IsSomeAnd o HasNoBlock in
+      let P : Option (List ℕ) → Type 0 = λ o. FindsInFile o no_block_file in
+      record {
+        only = λ e. subst Q is ((said (Some files) r status old new (query sql name) NotAFile h e (λ z. omega arith)).1 files refl);
+        always = λ none. one_of_three status 5 10 (h.ends no_block_file (built, subst P (sym is) none)).allowed;
+      }
+
+  bad_block_exactly : (o : Option (List ℕ)) → files name ≡ o → IfSome o (λ bytes. ExactlyOnceRead 6 status (HasBadBlock bytes))
+  bad_block_exactly None is = tt
+  bad_block_exactly (Some bytes) is =
+      let Q : Option (List ℕ) → Type 0 = λ o. IsSomeAnd o HasBadBlock in
+      let P : Option (List ℕ) → Type 0 = λ o. FindsInFile o bad_block in
+      record {
+        only = λ e. subst Q is ((said (Some files) r status old new (query sql name) Damaged h e (λ z. omega arith)).1 files refl);
+        always = λ bad. one_of_three status 6 10 (h.ends bad_block (built, subst P (sym is) bad)).allowed;
+      }
+
+module _ (r : Result (Unit {0}) Refusal) (status : ℕ) (old new : Option (List ℕ)) where
+  pub absent_told : (ask : Ask) (told : Option Contents) → Ended ask told r status old new → OfFile ask told (λ file. Exactly 4 status (file ≡ None))
+  absent_told nothing told h = tt
+  absent_told (query sql name) None h = tt
+  absent_told (query sql name) (Some files) h = λ built. absent_exactly sql name files r status old new h built
+
+  pub no_block_told : (ask : Ask) (told : Option Contents) → Ended ask told r status old new → OfFile ask told (λ file. IfSome file (λ bytes. ExactlyOnceRead 5 status (HasNoBlock bytes)))
+  no_block_told nothing told h = tt
+  no_block_told (query sql name) None h = tt
+  no_block_told (query sql name) (Some files) h = λ built. no_block_exactly sql name files r status old new h built (files name) refl
+
+  pub damaged_block : (ask : Ask) (told : Option Contents) → Ended ask told r status old new → OfFile ask told (λ file. IfSome file (λ bytes. ExactlyOnceRead 6 status (HasBadBlock bytes)))
+  damaged_block nothing told h = tt
+  damaged_block (query sql name) None h = tt
+  damaged_block (query sql name) (Some files) h = λ built. bad_block_exactly sql name files r status old new h built (files name) refl

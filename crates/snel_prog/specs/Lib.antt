@@ -1,0 +1,10 @@
+pub mod Words
+pub mod Asked
+pub mod Statuses
+pub mod Messages
+pub mod Verdicts
+pub mod Causes
+pub mod Loading
+pub mod Refusals
+pub mod Headline
+pub mod Written

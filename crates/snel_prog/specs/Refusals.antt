@@ -1,0 +1,40 @@
+-- What each refusal says of the words and the files.
+use Rattle.std.specs.Prelude.{◌≡◌, ℕ, true, false, List, [], ◌∷◌, ⊤, Option, Some, None, Result, Ok, Err}
+use Rattle.snel_device.specs.Contents.{Contents}
+use Rattle.snel_prog.specs.Words.{Ask, nothing, query, is_built}
+use Rattle.snel_prog.specs.Causes.{HasNoBlock, HasBadBlock}
+use Rattle.time_index.specs.Answers.{Knows}
+use Rattle.snel_prog.specs.declared.refusal.Refusal.{Refusal}
+use Rattle.snel_prog.specs.declared.refusal.Refusal.TheVariants.{Words, Query, Absent, NotAFile, Damaged, ReadFault, WriteFault, OutOfMemory}
+
+-- where files tell, there is none of this name
+abbrev pub IsAbsent : Option Contents → List ℕ → Type 0
+IsAbsent None name = ⊤
+IsAbsent (Some files) name = files name ≡ None
+
+-- what a refusal says of the file of this name
+abbrev pub SaysOfFile : Option Contents → List ℕ → Refusal → Type 0
+SaysOfFile told name Words = ⊥
+SaysOfFile told name Query = ⊥
+SaysOfFile told name Absent = IsAbsent told name
+SaysOfFile told name NotAFile = Knows told name HasNoBlock
+SaysOfFile told name Damaged = Knows told name HasBadBlock
+SaysOfFile told name ReadFault = ⊤
+SaysOfFile told name WriteFault = ⊤
+SaysOfFile told name OutOfMemory = ⊤
+
+-- what a refusal says of a query over a file
+abbrev pub SaysOfQuery : List ℕ → Option Contents → List ℕ → Refusal → Type 0
+SaysOfQuery sql told name Query = is_built sql ≡ false
+SaysOfQuery sql told name refusal = (is_built sql ≡ true) × SaysOfFile told name refusal
+
+-- what a refusal says of what is asked
+abbrev pub Says : Ask → Option Contents → Refusal → Type 0
+Says nothing told Words = ⊤
+Says nothing told OutOfMemory = ⊤
+Says nothing told refusal = ⊥
+Says (query sql name) told refusal = SaysOfQuery sql told name refusal
+
+abbrev pub HasItsCause : Ask → Option Contents → Result (Unit {0}) Refusal → Type 0
+HasItsCause ask told (Ok _) = ⊤
+HasItsCause ask told (Err refusal) = Says ask told refusal

@@ -1,0 +1,56 @@
+//! What the words ask.
+ghost use Rattle.std.specs.Prelude.{◌≡◌, ◌∷◌, []};
+ghost use Rattle.snel_prog.specs.Words.{asked, is_operand, is_built};
+ghost use Rattle.snel_prog.specs.Asked.{ask_view};
+
+use snel_values::Words;
+
+/// What a list of words asks.
+pub enum Ask<'w> {
+    /// Nothing: the words aren't accepted.
+    Nothing,
+    /// A query over a file.
+    Query {
+        /// The query's text.
+        sql: &'w str,
+        /// The file's name.
+        name: &'w str,
+    },
+}
+
+// Whether a word can be a query's text or a file's name.
+fn is_operand(word: &str) -> bool
+    ensures { result ≡ is_operand word.now }
+{
+    !word.is_empty() && !word.starts_with("--")
+}
+
+/// Whether a query's text is one that this stage answers.
+pub fn is_built(sql: &str) -> bool
+    ensures { result ≡ is_built sql.now }
+{
+    sql == "SELECT * FROM logs"
+}
+
+/// What the words ask.
+pub fn asked<'w>(words: &'w Words) -> Ask<'w>
+    ensures { ask_view result ≡ asked words.now }
+{
+    if words.len() != 3 {
+        return Ask::Nothing;
+    }
+    let (Some(command), Some(sql), Some(name)) = (words.get(0), words.get(1), words.get(2)) else {
+        return Ask::Nothing;
+    };
+    asked_by(command, sql, name)
+}
+
+fn asked_by<'w>(command: &'w str, sql: &'w str, name: &'w str) -> Ask<'w>
+    ensures { ask_view result ≡ asked (command.now ∷ sql.now ∷ name.now ∷ []) }
+{
+    if command == "query" && is_operand(sql) && is_operand(name) {
+        Ask::Query { sql, name }
+    } else {
+        Ask::Nothing
+    }
+}

@@ -1,0 +1,87 @@
+//! The top call.
+ghost use Rattle.std.specs.Prelude.{◌≡◌, ◌⊎◌, List, ℕ, None, IfSome, IsErrOf, false};
+ghost use Rattle.std.specs.Io.KnownBytes.{Appends};
+ghost use Rattle.snel_device.specs.Causes.{Rose};
+ghost use Rattle.snel_prog.specs.Words.{asked, nothing, query, is_built};
+ghost use Rattle.snel_prog.specs.Statuses.{status_after};
+ghost use Rattle.snel_prog.specs.Messages.{line_of};
+ghost use Rattle.snel_prog.specs.Verdicts.{rows, Exactly, ExactlyOnceRead};
+ghost use Rattle.value_meaning.specs.Val.{Val};
+ghost use Rattle.snel_prog.specs.Causes.{Finds, Ends, OfFile, HasNoBlock, HasBadBlock};
+ghost use Rattle.snel_prog.specs.Refusals.{HasItsCause};
+ghost use Rattle.snel_prog.specs.Headline.{Headline};
+
+use crate::ask::{Ask, asked};
+use crate::query::run_query;
+use crate::refusal::Refusal;
+use crate::report::report;
+use snel_device::{Files, Gate, Input, Out};
+use snel_values::Words;
+use std::alloc::Global;
+use std::thread::Threads;
+
+/// Does what the words ask, and answers the status. `words` are those after the program's name.
+///
+/// Answers go to `out`, each line by one put; a status other than 0 writes its line to `err`.
+pub fn snel<R: Threads + Sync, F: Files, I: Input + Send, O: Out, E: Out, G: Gate + Sync>(
+    _rt: &R,
+    alloc: Global,
+    words: &Words,
+    files: &mut F,
+    _input: &mut I,
+    out: &mut O,
+    err: &mut E,
+    _gate: &G,
+) -> u8
+    // The bytes written are those of an answer: all of them at status 0, else a prefix.
+    ensures headline { Headline (asked words.now) (F.told files.old) result (O.holds out.old) (O.holds out.new) }
+
+    // The status belongs to the first refusal or to the answer, and a refusal writes nothing.
+    ensures ends { Ends (asked words.now) (F.told files.old) result (O.holds out.old) (O.holds out.new) }
+
+    // When each status comes.
+    ensures bad_words { Exactly 2 result (asked words.now ≡ nothing) }
+    ensures bad_query { (sql name : List ℕ) → asked words.now ≡ query sql name → Exactly 3 result (is_built sql ≡ false) }
+    ensures absent_told { OfFile (asked words.now) (F.told files.old) (λ file. Exactly 4 result (file ≡ None)) }
+    ensures no_block_file { OfFile (asked words.now) (F.told files.old) (λ file. IfSome file (λ bytes. ExactlyOnceRead 5 result (HasNoBlock bytes))) }
+    ensures bad_block { OfFile (asked words.now) (F.told files.old) (λ file. IfSome file (λ bytes. ExactlyOnceRead 6 result (HasBadBlock bytes))) }
+    ensures absent { result ≡ 4 → Rose (F.misses files.old) (F.misses files.new) }
+    ensures read_fault { result ≡ 8 → Rose (F.read_faults files.old) (F.read_faults files.new) }
+    ensures write_fault { result ≡ 9 → Rose (O.faults out.old) (O.faults out.new) }
+
+    // Where nothing stands against the call and no fault rose, it is done, unless memory wants.
+    ensures complete { (rs : List Val) → Finds (asked words.now) (F.told files.old) (rows rs) → ¬ Rose (F.read_faults files.old) (F.read_faults files.new) → ¬ Rose (O.faults out.old) (O.faults out.new) → (result ≡ 0) ⊎ (result ≡ 10) }
+
+    // No file changes, and where `err` took it, it has the line of the status.
+    ensures told { F.told files.new ≡ F.told files.old }
+    ensures line { ¬ Rose (E.faults err.old) (E.faults err.new) → Appends (E.holds err.old) (E.holds err.new) (line_of result words.now) }
+{
+    match run(alloc, words, files, out) {
+        Ok(()) => 0,
+        Err(refusal) => {
+            let status = refusal.status();
+            report(status, words.get(2).unwrap_or(""), err);
+            status
+        }
+    }
+}
+
+// Does what the words ask, and answers what stood against it.
+fn run<F: Files, O: Out>(
+    alloc: Global,
+    words: &Words,
+    files: &mut F,
+    out: &mut O,
+) -> Result<(), Refusal>
+    ensures ends { Ends (asked words.now) (F.told files.old) (status_after result) (O.holds out.old) (O.holds out.new) }
+    ensures cause { HasItsCause (asked words.now) (F.told files.old) result }
+    ensures absent { IsErrOf result Refusal.Absent → Rose (F.misses files.old) (F.misses files.new) }
+    ensures read_fault { IsErrOf result Refusal.ReadFault → Rose (F.read_faults files.old) (F.read_faults files.new) }
+    ensures write_fault { IsErrOf result Refusal.WriteFault → Rose (O.faults out.old) (O.faults out.new) }
+    ensures told { F.told files.new ≡ F.told files.old }
+{
+    match asked(words) {
+        Ask::Nothing => Err(Refusal::Words),
+        Ask::Query { sql, name } => run_query(alloc, sql, name, files, out),
+    }
+}

@@ -1,0 +1,211 @@
+ghost use Rattle.std.specs.Prelude.{◌≢◌};
+
+use crate::run::snel;
+use snel_device::{MemFiles, MemOut, OpenGate, SteadyFiles, SteadyInput, SteadyOut};
+use snel_values::Words;
+use std::alloc::Global;
+use std::process::Abort;
+use std::test::Fail;
+use std::thread::Threads;
+
+const ALL: &str = "SELECT * FROM logs";
+
+const LINES: &str = "{\"a\":1,\"b\":\"x\"}\n{\"a\":null}\n{\"b\":7}\n";
+
+// One block with the rows {"a":1,"b":"x"}, {"a":null} and {"b":7}.
+const THREE_ROWS: [u8; 82] = [
+    0xe0, 0x01, 0x00, 0xea, 0xe9, 0x81, 0x83, 0xd6, 0x87, 0xb4, 0x81, 0x61, 0x81, 0x62, 0xd6, 0x8a,
+    0x21, 0x01, 0x8b, 0x81, 0x78, 0xd2, 0x8a, 0x0f, 0xd3, 0x8b, 0x21, 0x07, 0x53, 0x4e, 0x58, 0x31,
+    0x00, 0x00, 0x00, 0x00, 0x00, 0x01, 0x00, 0x00, 0x00, 0x00, 0x00, 0x00, 0x00, 0x00, 0x00, 0x00,
+    0x00, 0x1c, 0x00, 0x00, 0x00, 0x03, 0x00, 0x00, 0x00, 0x00, 0x00, 0x00, 0x00, 0x01, 0x00, 0x00,
+    0x00, 0x00, 0x00, 0x00, 0x00, 0x00, 0x00, 0x00, 0x00, 0x00, 0x00, 0x00, 0x00, 0x1c, 0x53, 0x4e,
+    0x58, 0x31,
+];
+
+// A block file without blocks.
+const NO_BLOCKS: [u8; 22] = [
+    0x53, 0x4e, 0x58, 0x31, 0x00, 0x00, 0x00, 0x00, 0x00, 0x00, 0x00, 0x00, 0x00, 0x00, 0x00, 0x00,
+    0x00, 0x00, 0x53, 0x4e, 0x58, 0x31,
+];
+
+// A status, what was written on the output, and what on the error output.
+type Wanted<'a> = (u8, &'a str, &'a str);
+
+// The file `rows` has three rows; `cut` is the same less its last byte, and `damaged` has a wrong first byte.
+fn stored(alloc: Global, failing: &[u32]) -> Result<MemFiles, Fail> {
+    let mut files = MemFiles::new(alloc, failing)?;
+    let mut damaged = THREE_ROWS;
+    damaged[0] = 0;
+    files.insert("rows", &THREE_ROWS)?;
+    files.insert("cut", &THREE_ROWS[..81])?;
+    files.insert("damaged", &damaged)?;
+    files.insert("none", &NO_BLOCKS)?;
+    files.insert("empty", &[])?;
+    Ok(files)
+}
+
+fn words_of(alloc: Global, texts: &[&str]) -> Result<Words, Fail> {
+    let mut words = Words::new(alloc);
+    for text in texts {
+        words.push(text)?;
+    }
+    Ok(words)
+}
+
+fn ends<R: Threads + Sync + Abort + AllocGlobal>(
+    rt: &R,
+    texts: &[&str],
+    failing: &[u32],
+    failing_puts: &[(u32, u32)],
+    wanted: Wanted<'_>,
+) -> Result<(), Fail> {
+    let alloc = rt.alloc();
+    let words = words_of(alloc, texts)?;
+    let mut files = stored(alloc, failing)?;
+    let mut input = SteadyInput::new(&[]);
+    let mut out = MemOut::new(alloc, failing_puts)?;
+    let mut err = MemOut::new(alloc, &[])?;
+    let status = snel(
+        rt, alloc, &words, &mut files, &mut input, &mut out, &mut err, &OpenGate,
+    );
+    assert_eq!(rt; status, wanted.0);
+    assert_eq!(rt; out.bytes(), wanted.1.as_bytes());
+    assert_eq!(rt; err.bytes(), wanted.2.as_bytes());
+    Ok(())
+}
+
+#[test]
+fn each_status_comes(rt: HostRuntime) -> Result<(), Fail> {
+    let words = "snel: words not understood\n";
+    let refused = "snel: query: not a query\n";
+    ends(&rt, &["query", ALL, "rows"], &[], &[], (0, LINES, ""))?;
+    ends(&rt, &["query"], &[], &[], (2, "", words))?;
+    ends(&rt, &[], &[], &[], (2, "", words))?;
+    ends(
+        &rt,
+        &["query", "--workers", "0", ALL, "rows"],
+        &[],
+        &[],
+        (2, "", words),
+    )?;
+    ends(&rt, &["query", ALL, "--rows"], &[], &[], (2, "", words))?;
+    ends(&rt, &["query", "", "rows"], &[], &[], (2, "", words))?;
+    ends(
+        &rt,
+        &["query", "SELECT", "absent"],
+        &[],
+        &[],
+        (3, "", refused),
+    )?;
+    ends(
+        &rt,
+        &["query", ALL, "absent"],
+        &[1],
+        &[],
+        (4, "", "snel: absent: no such file\n"),
+    )?;
+    ends(
+        &rt,
+        &["query", ALL, "cut"],
+        &[],
+        &[],
+        (5, "", "snel: cut: not a block file\n"),
+    )?;
+    ends(
+        &rt,
+        &["query", ALL, "empty"],
+        &[],
+        &[],
+        (5, "", "snel: empty: not a block file\n"),
+    )?;
+    ends(
+        &rt,
+        &["query", ALL, "none"],
+        &[],
+        &[],
+        (5, "", "snel: none: not a block file\n"),
+    )?;
+    ends(
+        &rt,
+        &["query", ALL, "damaged"],
+        &[],
+        &[],
+        (6, "", "snel: damaged: block 0 is damaged\n"),
+    )
+}
+
+// A file's size, tail, index and block are read by one call each.
+#[test]
+fn each_read_may_fail(rt: HostRuntime) -> Result<(), Fail> {
+    for call in 1..5u32 {
+        ends(
+            &rt,
+            &["query", ALL, "rows"],
+            &[call],
+            &[],
+            (8, "", "snel: files: read failed\n"),
+        )?;
+    }
+    ends(&rt, &["query", ALL, "rows"], &[5], &[], (0, LINES, ""))
+}
+
+#[test]
+fn each_put_may_fail(rt: HostRuntime) -> Result<(), Fail> {
+    for (put, keeps, length) in [
+        (1u32, 0u32, 0usize),
+        (1, 1, 1),
+        (1, 99, 16),
+        (2, 0, 16),
+        (2, 1, 17),
+        (2, 99, 27),
+        (3, 0, 27),
+        (3, 1, 28),
+        (3, 99, 35),
+    ] {
+        let Some(written) = LINES.get(..length) else {
+            continue
+        };
+        ends(
+            &rt,
+            &["query", ALL, "rows"],
+            &[],
+            &[(put, keeps)],
+            (9, written, "snel: write failed\n"),
+        )?;
+    }
+    ends(&rt, &["query", ALL, "rows"], &[], &[(4, 0)], (0, LINES, ""))
+}
+
+// Over objects that never fail, no status says that one did.
+fn steady<R: Threads + Sync>(
+    rt: &R,
+    alloc: Global,
+    words: &Words,
+    files: &mut SteadyFiles<'_>,
+    out: &mut SteadyOut,
+    err: &mut SteadyOut,
+) -> u8
+    ensures no_read_fault { result ≢ 8 }
+    ensures no_write_fault { result ≢ 9 }
+{
+    let mut input = SteadyInput::new(&[]);
+    snel(rt, alloc, words, files, &mut input, out, err, &OpenGate)
+}
+
+#[test]
+fn steady_objects_never_fail(rt: HostRuntime) -> Result<(), Fail> {
+    let alloc = rt.alloc();
+    let words = words_of(alloc, &["query", ALL, "rows"])?;
+    let files = stored(alloc, &[])?;
+    let (mut out, mut err) = (SteadyOut::new(), SteadyOut::new());
+    let status = steady(
+        &rt,
+        alloc,
+        &words,
+        &mut SteadyFiles::new(&files),
+        &mut out,
+        &mut err,
+    );
+    assert_eq!(rt; status, 0);
+    Ok(())
+}
