@@ -1,13 +1,13 @@
 -- Reading a block answers exactly the table and the rows of which it is the block.
-use Rattle.std.proofs.Common.{◌≡◌, ℕ, ◌^◌, ◌≤◌, true, false, List, [], ◌∷◌, ◌++◌, length, Some, eqb, ltb, refl, sym, ap, ◌∙◌, arith, inl, inr}
-use Rattle.std.specs.Prelude.{◌&&◌, ◌||◌}
+use Rattle.std.proofs.Common.{◌≡◌, ℕ, ◌^◌, ◌≤◌, true, false, List, [], ◌∷◌, ◌++◌, length, Some, None, eqb, ltb, refl, sym, ap, ◌∙◌, arith, inl, inr}
+use Rattle.std.specs.Prelude.{◌&&◌, ◌||◌, ◌≢◌}
 use Rattle.std.proofs.lemmas.Bool.{ltb-false, le-ltb}
 use Rattle.std.proofs.lemmas.Bool.Decides.{nat_tests}
 use Rattle.value_meaning.specs.Val.{Val, Vals, vals, items, no_vals, val}
 use Rattle.block_meaning.specs.Tables.{Table}
 use Rattle.block_meaning.specs.Cells.{AreCells}
 use Rattle.block_meaning.specs.CellReading.{cells_by, cell_to}
-use Rattle.block_meaning.specs.Blocks.{marker, AreTexts, IsTable, is_struct, AreRows, IsBlock, table_at, all_structs, as_rows, rows_in, behind_marker, block_in}
+use Rattle.block_meaning.specs.Blocks.{marker, AreTexts, IsTable, is_struct, AreRows, IsBlock, IsDamaged, table_at, all_structs, as_rows, rows_in, behind_marker, block_in}
 use Rattle.block_meaning.specs.Laws.{BlocksAreRead, OneListOfRows, RowsAreSound}
 use Rattle.block_meaning.proofs.Answered.{chosen, some_is, none_is, then_is, map_is, and_true, or_false}
 use Rattle.block_meaning.proofs.NestedReading.{reads_to, cells_take, cells_again}
@@ -138,3 +138,13 @@ table_sound table bytes h = record { utf8 = texts_utf8 table h.texts h.stand; ri
 pub rows_sound : RowsAreSound
 rows_sound table rows bytes h =
     (cells_sound table (table_sound table h.table_bytes h.is_table) (vals rows) 0 h.row_bytes h.cells, cells_times table (vals rows) 0 h.row_bytes h.cells)
+
+-- bytes that are read as no block, or as one of another count, are damaged for the count
+
+pub damaged_none : (n : ℕ) (bytes : List ℕ) → block_in bytes ≡ None → IsDamaged n bytes
+damaged_none n bytes e table rows count h = none_is _ (sym e ∙ blocks_again table rows bytes h)
+
+pub damaged_count : (n : ℕ) (bytes : List ℕ) (table : Table) (rows : List Val) → block_in bytes ≡ Some (table, rows) → length rows ≢ n → IsDamaged n bytes
+damaged_count n bytes table rows e apart other others count h =
+    let same = (one_list table other rows others bytes (blocks_take table rows bytes e) h).1 in
+    apart (ap length same ∙ count)

@@ -8,7 +8,7 @@ use Rattle.std.proofs.lemmas.List.{length-append, take-append-drop, append_cance
 use Rattle.value_meaning.specs.Val.{Val, Vals, Fields, list, struct, val, field}
 use Rattle.block_meaning.specs.Numbers.{var_uint}
 use Rattle.block_meaning.specs.Tables.{Table, text_of}
-use Rattle.block_meaning.specs.CellReading.{Reader, head_at, one_byte, or_byte, with_payload, scalar, cells_by, pairs_by, node, cell_by, flat_cell, cell_to, is_cell, cell_value}
+use Rattle.block_meaning.specs.CellReading.{Reader, head_at, one_byte, or_byte, with_payload, scalar, cells_by, pairs_by, node, cell_by, flat_cell, cell_to, ends_there, value_read, is_cell, cell_value}
 use Rattle.block_meaning.proofs.Answered.{chosen, some_is, none_is}
 use Rattle.block_meaning.proofs.NumberReading.{var_uint-takes}
 use Rattle.block_meaning.proofs.CellReading.{head_takes, by_takes}
@@ -321,3 +321,32 @@ first_of_cells table room bytes place few e =
         let here : cell_to table room bytes ≡ Some (x.0, drop place bytes) = read ∙ ap (λ (z : List ℕ). Some (x.0, z)) (sym same) in
         let w = cell_is table room few bytes x.0 (drop place bytes) here (take place bytes) (sym (take-append-drop place bytes)) in
         record { cell = w.0; read = rw w.1 here }
+
+-- the first of the cells that the bytes are, and the others
+pub cells_first : (table : Table) (room : ℕ) (bytes : List ℕ) (place : ℕ) → room ≤ 128 → Some (drop place bytes) ≡ ends (cell_to table room bytes) → cells_by (cell_to table room) (length bytes) bytes ≡ option_map (val (cell_value table (take place bytes))) (cells_by (cell_to table room) (length (drop place bytes)) (drop place bytes))
+cells_first table room bytes place few e =
+    let first = first_of_cells table room bytes place few e in
+    cells_next (cell_to table room) (cell_shrinks table room) (length bytes) (length (drop place bytes)) bytes (cell_value table (take place bytes), drop place bytes) first.read (omega arith) (omega arith)
+
+-- the first of the pairs, whose cell ends at a place behind the label, and the others
+pub pairs_first : (table : Table) (room low : ℕ) (bytes : List ℕ) (l : ℕ × List ℕ) (name : List ℕ) (place : ℕ) → room ≤ 128 → var_uint bytes ≡ Some l → low ≤ l.0 → text_of table l.0 ≡ Some name → Some (drop place l.1) ≡ ends (cell_to table room l.1)
+    → pairs_by (cell_to table room) table low (length bytes) bytes ≡ option_map (field name (cell_value table (take place l.1))) (pairs_by (cell_to table room) table (suc l.0) (length (drop place l.1)) (drop place l.1))
+pairs_first table room low bytes l name place few marked high named e =
+    let first = first_of_cells table room l.1 place few e in
+    pairs_next (cell_to table room) (cell_shrinks table room) table low (length bytes) (length (drop place l.1)) bytes l name (cell_value table (take place l.1), drop place l.1) marked high named first.read (omega arith) (omega arith)
+
+abbrev read_alone : Val → List ℕ → Option (Val × List ℕ)
+read_alone v rest = Some (v, rest)
+
+-- bytes that are one cell are read as its value, and nothing is left
+pub is_cell_reads : (table : Table) (bytes : List ℕ) → is_cell table bytes ≡ true → cell_to table 128 bytes ≡ Some (cell_value table bytes, [])
+unfolding is_cell cell_value
+is_cell_reads table bytes h = alone (cell_to table 128 bytes) h
+  where
+    nothing_left : (v : Val) (rest : List ℕ) → eqb (length rest) 0 ≡ true → read_alone v rest ≡ read_alone v []
+    nothing_left v [] h = refl
+    nothing_left v (b ∷ bs) h = absurd (let k : suc (length bs) ≡ 0 = grind (arith, nat_tests) in omega arith)
+
+    alone : (o : Option (Val × List ℕ)) → ends_there o ≡ true → o ≡ Some (value_read o, [])
+    alone None h = absurd cc
+    alone (Some x) h = nothing_left x.0 x.1 h

@@ -1,18 +1,22 @@
 -- Blocks and cells worked by hand: the definitions answer what is expected.
-use Rattle.std.proofs.Common.{◌≡◌, ℕ, zero, suc, List, [], ◌∷◌, Option, Some, None, refl, pos, true}
+use Rattle.std.proofs.Common.{◌≡◌, ℕ, zero, suc, ◌+◌, ◌/◌, ◌%◌, List, [], ◌∷◌, length, Option, Some, None, refl, pos, true, false}
+use Rattle.std.specs.Prelude.{is_some}
 use Rattle.std.specs.Str.{is_utf8, chars}
 use lib.Utf8.{encode}
 use Rattle.jiff_core.specs.Calendar.{days_from_civil, day_count, days_of_years, days_of_months}
 use Rattle.time_meaning.specs.Moments.{moment, is_real}
-use Rattle.value_meaning.specs.Val.{Val, missing, null, truth, int, time, text, list, struct, no_vals, val, no_fields, field}
+use Rattle.value_meaning.specs.Val.{Val, null, truth, int, time, text, list, struct, no_vals, val, no_fields, field}
 use Rattle.block_meaning.specs.Numbers.{var_uint, var_int, magnitude}
 use Rattle.block_meaning.specs.Timestamps.{or_least, clock, cut, fraction, moment_of, timestamp}
 use Rattle.block_meaning.specs.Tables.{Table, text_of}
-use Rattle.block_meaning.specs.CellReading.{counted, head_at, one_byte, scalar, node, cell_by, flat_cell, cell_to, is_cell, cell_value}
+use Rattle.block_meaning.specs.CellReading.{counted, head_at, one_byte, scalar, node, cell_by, flat_cell, cell_to}
 use Rattle.block_meaning.specs.Blocks.{payload_of, only_payload, listed_in, texts_in, table_at, rows_in, block_in}
 
 abbrev read : Table → List Val → Option (Table × List Val)
 read t rows = Some (t, rows)
+
+abbrev the_table : Option (Table × List ℕ)
+the_table = Some ([], [])
 
 abbrev damaged : Option (Table × List Val)
 damaged = None
@@ -76,3 +80,25 @@ no_length = refl
 long_length : at_a (222 ∷ 0 ∷ 0 ∷ 0 ∷ 0 ∷ 132 ∷ 138 ∷ 33 ∷ 1 ∷ 0 ∷ []) ≡ no_cell
 unfolding cell_to cell_by one_byte node scalar magnitude text_of var_uint head_at counted
 long_length = refl
+
+-- the table without a text
+empty_table : table_at (229 ∷ 129 ∷ 131 ∷ 210 ∷ 135 ∷ 176 ∷ []) ≡ the_table
+unfolding table_at payload_of texts_in listed_in only_payload var_uint head_at counted
+empty_table = refl
+
+-- so many lists, each in the next, behind a first one
+lists : ℕ → List ℕ
+lists zero = 176 ∷ []
+lists (suc n) = let within = lists n in 190 ∷ (length within / 128) ∷ (128 + length within % 128) ∷ within
+
+-- a row of one pair whose value is so many lists, each in the next
+row_of : ℕ → List ℕ
+row_of n = let within = lists n in 222 ∷ ((1 + length within) / 128) ∷ (128 + (1 + length within) % 128) ∷ 138 ∷ within
+
+deepest : is_some (at_a (row_of 126)) ≡ true
+unfolding row_of lists cell_to flat_cell cell_by one_byte node scalar magnitude text_of var_uint head_at counted
+deepest = refl
+
+too_deep : is_some (at_a (row_of 127)) ≡ false
+unfolding row_of lists cell_to flat_cell cell_by one_byte node scalar magnitude text_of var_uint head_at counted
+too_deep = refl
