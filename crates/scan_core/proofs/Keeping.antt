@@ -7,7 +7,7 @@ use native.Mathlib.Decide.{dec_le, dec_lt, ℕ_discrete}
 use lib.ListN.{get_elem?}
 use Rattle.scan_core.specs.declared.view.ScanView.{ScanView}
 use Rattle.scan_core.specs.Times.{total, times}
-use Rattle.scan_core.specs.Board.{Scan, total_below, lesser, AtMost, least_of, Fits, Kept, empty_view, once_below, claimed, ending, reported, harmed, saw_rows, saw_damage, joined}
+use Rattle.scan_core.specs.Board.{Scan, total_below, lesser, AtMost, least_of, IsSound, Fits, Kept, empty_view, once_below, claimed, ending, reported, harmed, saw_rows, saw_damage, joined}
 
 module _ {A : Type 0} where
   pub at_set : (l : List A) (i j : ℕ) (a b : A) → get_elem? (set l i a) j ≡ some b → ((j ≡ i) × (a ≡ b)) ⊎ ((j ≢ i) × (get_elem? l j ≡ some b))
@@ -89,9 +89,7 @@ changed s i w n r d = record { blocks = s.blocks; enough = s.enough; next = n; r
 -- what the view of another seat keeps, later
 pub fits_later : (s t : Scan) (v : ScanView) → t.blocks ≡ s.blocks → s.next ≤ t.next → t.next ≤ t.blocks → s.rows ≤ t.rows → AtMost t.damage s.damage → Fits s v → Fits t v
 fits_later s t v same more in_bounds rows damage f = record {
-  reports = f.reports;
-  rows = f.rows;
-  least = f.least;
+  sound = f.sound;
   ended = λ e. let n = f.ended e in omega arith;
   seen_rows = let r = f.seen_rows in omega arith;
   seen_damage = at_most-trans t.damage s.damage v.seen_damage damage f.seen_damage;
@@ -112,16 +110,46 @@ one_changes s i v w n r d k at more in_bounds claims rows more_rows damage lower
 pub times-append : (b : ℕ) (l m : List ℕ) → times b (l ++ m) ≡ times b l + times b m
 times-append b l m = total-append _ l m
 
+one_of_two : (a b : ℕ) → (a ≡ min a b) ⊎ (b ≡ min a b)
+one_of_two a b = dite (dec_le a b) (λ h. inl (omega arith)) (λ h. inr (omega arith))
+
+pub sound_claimed : (v : ScanView) (n : ℕ) → IsSound v → IsSound (claimed v n)
+sound_claimed v n k = record {
+  reports = let r = k.reports in omega (arith, length-append v.claims (n ∷ []));
+  rows = k.rows;
+  least = λ b e. omega (arith, k.least b e, times-append b v.claims (n ∷ []));
+}
+
+pub sound_ending : (v : ScanView) → IsSound v → IsSound (ending v)
+sound_ending v k = record { reports = k.reports; rows = k.rows; least = k.least }
+
+pub sound_reported : (v : ScanView) (n : ℕ) → v.reports < length v.claims → n ≤ 1048576 → IsSound v → IsSound (reported v n)
+sound_reported v n some_left few k = record { reports = omega arith; rows = let r = k.rows in omega arith; least = k.least }
+
+pub sound_harmed : (v : ScanView) (b : ℕ) → 0 < times b v.claims → IsSound v → IsSound (harmed v b)
+sound_harmed v b mine k = record { reports = k.reports; rows = k.rows; least = λ c e. least_is v.least c (λ d. k.least d) e }
+  where
+    least_is : (a : Option ℕ) (c : ℕ) → ((d : ℕ) → a ≡ Some d → 0 < times d v.claims) → lesser a (Some b) ≡ Some c → 0 < times c v.claims
+    least_is None c h e = let is : b ≡ c = cc in subst (λ (x : ℕ). 0 < times x v.claims) is mine
+    least_is (Some a) c h e = let is : min a b ≡ c = cc in ⊎_elim
+        (λ t. subst (λ (x : ℕ). 0 < times x v.claims) (t ∙ is) (h a refl))
+        (λ t. subst (λ (x : ℕ). 0 < times x v.claims) (t ∙ is) mine)
+        (one_of_two a b)
+
+pub sound_saw : (v : ScanView) (n : ℕ) (d : Option ℕ) → IsSound v → IsSound (saw_damage (saw_rows v n) d)
+sound_saw v n d k = record { reports = k.reports; rows = k.rows; least = k.least }
+
+pub sound_empty : IsSound empty_view
+sound_empty = record { reports = omega arith; rows = omega arith; least = λ b e. absurd (let no : None ≡ Some b = e in cc) }
+
 pub kept_claim : (s : Scan) (i : ℕ) (v : ScanView) → Kept s → get_elem? s.views i ≡ some v → s.next < s.blocks
     → Kept (changed s i (claimed v s.next) (s.next + 1) s.rows s.damage)
-kept_claim s i v k at room = let f0 = k.each i v at in let reports = f0.reports in let ended = f0.ended in
+kept_claim s i v k at room = let f0 = k.each i v at in let ended = f0.ended in
     one_changes s i v (claimed v s.next) (s.next + 1) s.rows s.damage k at (omega arith) (omega arith)
     (λ f. rw add-one (omega (arith, total-append f v.claims (s.next ∷ []))))
     (omega arith) (omega arith) (k.damage ∙ sym (least-set_same s.views i v (claimed v s.next) at refl)) (lesser-same s.damage)
     record {
-      reports = omega (arith, length-append v.claims (s.next ∷ []));
-      rows = f0.rows;
-      least = λ b e. omega (arith, f0.least b e, times-append b v.claims (s.next ∷ []));
+      sound = sound_claimed v s.next f0.sound;
       ended = λ e. absurd (omega (arith, ended e));
       seen_rows = f0.seen_rows;
       seen_damage = f0.seen_damage;
@@ -132,17 +160,14 @@ pub kept_end : (s : Scan) (i : ℕ) (v : ScanView) → Kept s → get_elem? s.vi
 kept_end s i v k at full = let f0 = k.each i v at in let b = k.bounded in
     one_changes s i v (ending v) s.next s.rows s.damage k at (omega arith) b (λ f. refl)
     (omega arith) (omega arith) (k.damage ∙ sym (least-set_same s.views i v (ending v) at refl)) (lesser-same s.damage)
-    record { reports = f0.reports; rows = f0.rows; least = f0.least; ended = λ e. omega arith; seen_rows = f0.seen_rows; seen_damage = f0.seen_damage }
+    record { sound = sound_ending v f0.sound; ended = λ e. omega arith; seen_rows = f0.seen_rows; seen_damage = f0.seen_damage }
 
 pub kept_rows : (s : Scan) (i : ℕ) (v : ScanView) (n : ℕ) → Kept s → get_elem? s.views i ≡ some v → v.reports < length v.claims → n ≤ 1048576
     → Kept (changed s i (reported v n) s.next (s.rows + n) s.damage)
-kept_rows s i v n k at some_left few = let f0 = k.each i v at in let b = k.bounded in let rows = f0.rows in let seen = f0.seen_rows in
+kept_rows s i v n k at some_left few = let f0 = k.each i v at in let b = k.bounded in let seen = f0.seen_rows in
     one_changes s i v (reported v n) s.next (s.rows + n) s.damage k at (omega arith) b (λ f. refl)
     (omega arith) (omega arith) (k.damage ∙ sym (least-set_same s.views i v (reported v n) at refl)) (lesser-same s.damage)
-    record { reports = omega arith; rows = omega arith; least = f0.least; ended = f0.ended; seen_rows = omega arith; seen_damage = f0.seen_damage }
-
-one_of_two : (a b : ℕ) → (a ≡ min a b) ⊎ (b ≡ min a b)
-one_of_two a b = dite (dec_le a b) (λ h. inl (omega arith)) (λ h. inr (omega arith))
+    record { sound = sound_reported v n some_left few f0.sound; ended = f0.ended; seen_rows = omega arith; seen_damage = f0.seen_damage }
 
 pub kept_damage : (s : Scan) (i : ℕ) (v : ScanView) (b : ℕ) → Kept s → get_elem? s.views i ≡ some v → 0 < times b v.claims
     → Kept (changed s i (harmed v b) s.next s.rows (lesser s.damage (Some b)))
@@ -150,32 +175,23 @@ kept_damage s i v b k at mine = let f0 = k.each i v at in
     one_changes s i v (harmed v b) s.next s.rows (lesser s.damage (Some b)) k at (omega arith) k.bounded (λ f. refl)
     (omega arith) (omega arith) (ap (λ (d : Option ℕ). lesser d (Some b)) k.damage ∙ sym (least-set s.views i v (harmed v b) (Some b) at refl)) (at_most_first s.damage (Some b))
     record {
-      reports = f0.reports;
-      rows = f0.rows;
-      least = λ c e. least_is v.least c (λ d. f0.least d) e;
+      sound = sound_harmed v b mine f0.sound;
       ended = f0.ended;
       seen_rows = f0.seen_rows;
       seen_damage = at_most-trans (lesser s.damage (Some b)) s.damage v.seen_damage (at_most_first s.damage (Some b)) f0.seen_damage;
     }
-  where
-    least_is : (a : Option ℕ) (c : ℕ) → ((d : ℕ) → a ≡ Some d → 0 < times d v.claims) → lesser a (Some b) ≡ Some c → 0 < times c v.claims
-    least_is None c h e = let is : b ≡ c = cc in subst (λ (x : ℕ). 0 < times x v.claims) is mine
-    least_is (Some a) c h e = let is : min a b ≡ c = cc in ⊎_elim
-        (λ t. subst (λ (x : ℕ). 0 < times x v.claims) (t ∙ is) (h a refl))
-        (λ t. subst (λ (x : ℕ). 0 < times x v.claims) (t ∙ is) mine)
-        (one_of_two a b)
 
 pub kept_look_rows : (s : Scan) (i : ℕ) (v : ScanView) → Kept s → get_elem? s.views i ≡ some v → Kept (changed s i (saw_rows v s.rows) s.next s.rows s.damage)
 kept_look_rows s i v k at = let f0 = k.each i v at in let b = k.bounded in
     one_changes s i v (saw_rows v s.rows) s.next s.rows s.damage k at (omega arith) b (λ f. refl)
     (omega arith) (omega arith) (k.damage ∙ sym (least-set_same s.views i v (saw_rows v s.rows) at refl)) (lesser-same s.damage)
-    record { reports = f0.reports; rows = f0.rows; least = f0.least; ended = f0.ended; seen_rows = omega arith; seen_damage = f0.seen_damage }
+    record { sound = sound_saw v s.rows v.seen_damage f0.sound; ended = f0.ended; seen_rows = omega arith; seen_damage = f0.seen_damage }
 
 pub kept_look_damage : (s : Scan) (i : ℕ) (v : ScanView) → Kept s → get_elem? s.views i ≡ some v → Kept (changed s i (saw_damage v s.damage) s.next s.rows s.damage)
 kept_look_damage s i v k at = let f0 = k.each i v at in let b = k.bounded in
     one_changes s i v (saw_damage v s.damage) s.next s.rows s.damage k at (omega arith) b (λ f. refl)
     (omega arith) (omega arith) (k.damage ∙ sym (least-set_same s.views i v (saw_damage v s.damage) at refl)) (lesser-same s.damage)
-    record { reports = f0.reports; rows = f0.rows; least = f0.least; ended = f0.ended; seen_rows = f0.seen_rows; seen_damage = lesser-same s.damage }
+    record { sound = sound_saw v v.seen_rows s.damage f0.sound; ended = f0.ended; seen_rows = f0.seen_rows; seen_damage = lesser-same s.damage }
 
 pub both_later : (a b c d : Option ℕ) → AtMost a c → AtMost a d → AtMost a (lesser c d)
 both_later a b c d p q = sym (lesser-assoc a c d) ∙ ap (λ (x : Option ℕ). lesser x d) p ∙ q
@@ -188,6 +204,13 @@ least_among (Some a) (Some b) l m p q c e = let is : min a b ≡ c = cc in ⊎_e
     (λ t. let h' = subst (λ (x : ℕ). 0 < times x l) (t ∙ is) (p a refl) in omega (arith, h', times-append c l m))
     (λ t. let h' = subst (λ (x : ℕ). 0 < times x m) (t ∙ is) (q b refl) in omega (arith, h', times-append c l m))
     (one_of_two a b)
+
+sound_joined : (v w : ScanView) → IsSound v → IsSound w → IsSound (joined v w)
+sound_joined v w a b = record {
+  reports = let x = a.reports in let y = b.reports in omega (arith, length-append v.claims w.claims);
+  rows = let x = a.rows in let y = b.rows in omega arith;
+  least = least_among v.least w.least v.claims w.claims a.least b.least;
+}
 
 pub either_ended : (a b : Bool) → (P : Type 0) → (a ≡ true → P) → (b ≡ true → P) → (a || b) ≡ true → P
 either_ended true b P p q e = p refl
@@ -218,10 +241,10 @@ abbrev pub with_views : Scan → List ScanView → Scan
 with_views s l = record { blocks = s.blocks; enough = s.enough; next = s.next; rows = s.rows; damage = s.damage; views = l }
 
 pub refit : (s : Scan) (l : List ScanView) (v : ScanView) → Fits s v → Fits (with_views s l) v
-refit s l v f = record { reports = f.reports; rows = f.rows; least = f.least; ended = f.ended; seen_rows = f.seen_rows; seen_damage = f.seen_damage }
+refit s l v f = record { sound = f.sound; ended = f.ended; seen_rows = f.seen_rows; seen_damage = f.seen_damage }
 
 pub fits_empty : (s : Scan) → Fits s empty_view
-fits_empty s = record { reports = omega arith; rows = omega arith; least = λ b e. absurd (let no : None ≡ Some b = e in cc); ended = λ e. absurd (let no : false ≡ true = e in cc); seen_rows = omega arith; seen_damage = lesser-none s.damage }
+fits_empty s = record { sound = sound_empty; ended = λ e. absurd (let no : false ≡ true = e in cc); seen_rows = omega arith; seen_damage = lesser-none s.damage }
 
 pub kept_join : (s : Scan) (i j : ℕ) (v w : ScanView) → Kept s → get_elem? s.views i ≡ some v → j ≢ i → get_elem? (set s.views i (joined v w)) j ≡ some w
     → Kept (with_views s (set (set s.views i (joined v w)) j empty_view))
@@ -246,9 +269,7 @@ kept_join s i j v w k at ne other = let u : ScanView = joined v w in let l = s.v
 
     both : Fits s (joined v w)
     both = record {
-      reports = let a = first.reports in let b = second.reports in omega (arith, length-append v.claims w.claims);
-      rows = let a = first.rows in let b = second.rows in omega arith;
-      least = least_among v.least w.least v.claims w.claims first.least second.least;
+      sound = sound_joined v w first.sound second.sound;
       ended = either_ended v.ended w.ended (s.next ≡ s.blocks) first.ended second.ended;
       seen_rows = let a = first.seen_rows in let b = second.seen_rows in omega arith;
       seen_damage = both_later s.damage s.damage v.seen_damage w.seen_damage first.seen_damage second.seen_damage;
@@ -301,7 +322,7 @@ claim_below s k i v at x h = let c = claimed_once s k x in let t = total-at (λ 
 
 -- once a damage is known, each lower block is among the claims of a seat
 pub harm_is_covered : (s : Scan) → Kept s → (d : ℕ) → s.damage ≡ Some d → (x : ℕ) → x < d → (i : ℕ) × (v : ScanView) × (get_elem? s.views i ≡ some v) × (0 < times x v.claims)
-harm_is_covered s k d e x h = let l = is_least s.views d (sym k.damage ∙ e) in let mine = (k.each l.0 l.1 l.2).least d l.3 in
+harm_is_covered s k d e x h = let l = is_least s.views d (sym k.damage ∙ e) in let mine = (k.each l.0 l.1 l.2).sound.least d l.3 in
     let b = claim_below s k l.0 l.1 l.2 d mine in is_claimed s k x (omega arith)
 
 -- once a seat has ended, the claims are all blocks
@@ -320,7 +341,7 @@ total_below-same c (suc n) = omega (arith, total_below-same c n)
 pub rows_bound : (s : Scan) → Kept s → s.rows ≤ 1048576 * s.next
 rows_bound s k = let c = k.claims (λ _. 1048576) in let rows = k.rows in
     let few = total-le (λ (v : ScanView). v.rows) (λ (v : ScanView). total (λ _. 1048576) v.claims) s.views
-    (λ i v e. let f = k.each i v e in let a = f.rows in let b = f.reports in omega (arith, total-same 1048576 v.claims)) in
+    (λ i v e. let f = (k.each i v e).sound in let a = f.rows in let b = f.reports in omega (arith, total-same 1048576 v.claims)) in
     omega (arith, total_below-same 1048576 s.next)
 
 -- the least of the views is at most each

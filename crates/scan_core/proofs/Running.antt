@@ -19,10 +19,10 @@ at_index [] i d h = absurd (omega arith)
 at_index (x ∷ xs) zero d h = refl
 at_index (x ∷ xs) (suc i) d h = at_index xs i d (omega arith)
 
-lt_true : (n m : ℕ) → n < m → nat_lt n m ≡ true
+pub lt_true : (n m : ℕ) → n < m → nat_lt n m ≡ true
 lt_true n m h = grind (arith, nat_tests)
 
-lt_false : (n m : ℕ) → (n < m → ⊥) → nat_lt n m ≡ false
+pub lt_false : (n m : ℕ) → (n < m → ⊥) → nat_lt n m ≡ false
 lt_false n m h = grind (arith, nat_tests)
 
 pub kept_after : (s : Scan) (e : ScanEvent) → Kept s → seat_of e < length s.views → Lawful s e → Kept (after s e)

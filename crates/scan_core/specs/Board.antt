@@ -38,11 +38,15 @@ least_of (v ∷ vs) = lesser v.least (least_of vs)
 abbrev pub most_rows : ℕ
 most_rows = 1048576
 
--- what one view keeps
-pub record Fits (s : Scan) (v : ScanView) : Type 0 where
+-- what one view keeps, whatever the others did
+pub record IsSound (v : ScanView) : Type 0 where
   pub reports : v.reports ≤ length v.claims
   pub rows : v.rows ≤ most_rows * v.reports
   pub least : (b : ℕ) → v.least ≡ Some b → 0 < times b v.claims
+
+-- what one view keeps in a state
+pub record Fits (s : Scan) (v : ScanView) : Type 0 where
+  pub sound : IsSound v
   pub ended : v.ended ≡ true → s.next ≡ s.blocks
   pub seen_rows : v.seen_rows ≤ s.rows
   pub seen_damage : AtMost s.damage v.seen_damage

@@ -7,7 +7,7 @@ use Rattle.scan_core.proofs.state.ScanState.report_rows.Goals as goal
 pub overflow_add-view : goal.overflow_add-view
 overflow_add-view c =
     let at = at_here c.args.self.now.views c.args.seat c.index_mut-view.result.now (search rules) (search rules) in
-    let kept = c.args.self.now.kept in let fits = kept.each c.args.seat _ at in let rows = fits.rows in let reports = fits.reports in
+    let kept = c.args.self.now.kept in let fits = (kept.each c.args.seat _ at).sound in let rows = fits.rows in let reports = fits.reports in
     let few = claims_bound (shown c.args.self.now) kept c.args.seat _ at in omega arith
 
 pub overflow_add-view-2 : goal.overflow_add-view-2
