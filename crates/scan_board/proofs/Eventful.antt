@@ -51,12 +51,12 @@ module _ (key : BoardKey) where
       let here = view_is s id m st.there in
       ap (shown key) st.after ∙ dite (dec_lt x key.blocks)
       (λ room. let next : x ≡ (shown key s).next = omega arith in
-          shown_put s id w (claimed (at (shown key s) id) (shown key s).next) (set s.words 0 ((x + 1) % 2 ^ 64)) s.homes ((shown key s).next + 1) (get_or s.words 1 0) (damage_of (get_or s.words 2 0))
-              (ap (λ (q : Running). q.view) (st.tells.1 (omega arith)).0 ∙ (λ i. claimed (here i) (next i))) (omega arith) same1 (ap damage_of same2)
-          ∙ sym (after_room (shown key s) id (omega arith)))
+      shown_put s id w (claimed (at (shown key s) id) (shown key s).next) (set s.words 0 ((x + 1) % 2 ^ 64)) s.homes ((shown key s).next + 1) (get_or s.words 1 0) (damage_of (get_or s.words 2 0))
+      (ap (λ (q : Running). q.view) (st.tells.1 (omega arith)).0 ∙ (λ i. claimed (here i) (next i))) (omega arith) same1 (ap damage_of same2)
+      ∙ sym (after_room (shown key s) id (omega arith)))
       (λ full. shown_put s id w (ending (at (shown key s) id)) (set s.words 0 ((x + 1) % 2 ^ 64)) s.homes (shown key s).next (get_or s.words 1 0) (damage_of (get_or s.words 2 0))
-              (ap (λ (q : Running). q.view) (st.tells.2 (omega arith)) ∙ ap ending here) (omega arith) same1 (ap damage_of same2)
-          ∙ sym (after_full (shown key s) id (λ less. full (omega arith))))
+      (ap (λ (q : Running). q.view) (st.tells.2 (omega arith)) ∙ ap ending here) (omega arith) same1 (ap damage_of same2)
+      ∙ sym (after_full (shown key s) id (λ less. full (omega arith))))
 
   pub event_rows : (n : ℕ) → n < 2 ^ 32 → IsEvent key 1 n (λ x. (x + n) % 2 ^ 64) Reports (λ k. event.Rows k n)
   event_rows n small_n s t id m w h one may st = let x : ℕ = get_or s.words 1 0 in let small = h.small.0 in let three = h.three in
@@ -66,7 +66,7 @@ module _ (key : BoardKey) where
       let same1 = get_or-set_same s.words 1 ((x + n) % 2 ^ 64) 0 (omega arith) in
       let same2 = get_or-set_other s.words 1 2 ((x + n) % 2 ^ 64) 0 (λ e. omega arith) in
       ap (shown key) st.after ∙ shown_put s id w (reported (at (shown key s) id) n) (set s.words 1 ((x + n) % 2 ^ 64)) s.homes (shown key s).next ((shown key s).rows + n) (shown key s).damage
-          (ap (λ (q : Running). q.view) st.tells.1 ∙ ap (λ (v : ScanView). reported v n) (view_is s id m st.there)) (omega arith) (same1 ∙ fits) (ap damage_of same2)
+      (ap (λ (q : Running). q.view) st.tells.1 ∙ ap (λ (v : ScanView). reported v n) (view_is s id m st.there)) (omega arith) (same1 ∙ fits) (ap damage_of same2)
 
   pub event_damage : (b : ℕ) → b < 2 ^ 32 → IsEvent key 2 b (λ x. min x b) Harms (λ k. event.Damage k b)
   event_damage b small s t id m w h one may st = let x : ℕ = get_or s.words 2 0 in let three = h.three in
@@ -74,7 +74,7 @@ module _ (key : BoardKey) where
       let same1 = get_or-set_other s.words 2 1 (min x b) 0 (λ e. omega arith) in
       let same2 = get_or-set_same s.words 2 (min x b) 0 (omega arith) in
       ap (shown key) st.after ∙ shown_put s id w (harmed (at (shown key s) id) b) (set s.words 2 (min x b)) s.homes (shown key s).next (shown key s).rows (lesser (shown key s).damage (Some b))
-          (ap (λ (q : Running). q.view) st.tells.1 ∙ ap (λ (v : ScanView). harmed v b) (view_is s id m st.there)) (omega arith) same1 (ap damage_of same2 ∙ damage-min key x b small)
+      (ap (λ (q : Running). q.view) st.tells.1 ∙ ap (λ (v : ScanView). harmed v b) (view_is s id m st.there)) (omega arith) same1 (ap damage_of same2 ∙ damage-min key x b small)
 
   pub event_look_rows : IsEvent key 1 0 (λ x. x) LooksAtRows event.LookRows
   event_look_rows s t id m w h one may st = let x : ℕ = get_or s.words 1 0 in let three = h.three in
@@ -82,7 +82,7 @@ module _ (key : BoardKey) where
       let same1 = get_or-set_same s.words 1 x 0 (omega arith) in
       let same2 = get_or-set_other s.words 1 2 x 0 (λ e. omega arith) in
       ap (shown key) st.after ∙ shown_put s id w (saw_rows (at (shown key s) id) x) (set s.words 1 x) s.homes (shown key s).next (shown key s).rows (shown key s).damage
-          (ap (λ (q : Running). q.view) st.tells.1 ∙ ap (λ (v : ScanView). saw_rows v x) (view_is s id m st.there)) (omega arith) same1 (ap damage_of same2)
+      (ap (λ (q : Running). q.view) st.tells.1 ∙ ap (λ (v : ScanView). saw_rows v x) (view_is s id m st.there)) (omega arith) same1 (ap damage_of same2)
 
   pub event_look_damage : IsEvent key 2 0 (λ x. x) LooksAtDamage event.LookDamage
   event_look_damage s t id m w h one may st = let x : ℕ = get_or s.words 2 0 in let three = h.three in
@@ -90,4 +90,4 @@ module _ (key : BoardKey) where
       let same1 = get_or-set_other s.words 2 1 x 0 (λ e. omega arith) in
       let same2 = get_or-set_same s.words 2 x 0 (omega arith) in
       ap (shown key) st.after ∙ shown_put s id w (saw_damage (at (shown key s) id) (damage_of x)) (set s.words 2 x) s.homes (shown key s).next (shown key s).rows (shown key s).damage
-          (ap (λ (q : Running). q.view) st.tells.1 ∙ ap (λ (v : ScanView). saw_damage v (damage_of x)) (view_is s id m st.there)) (omega arith) same1 (ap damage_of same2)
+      (ap (λ (q : Running). q.view) st.tells.1 ∙ ap (λ (v : ScanView). saw_damage v (damage_of x)) (view_is s id m st.there)) (omega arith) same1 (ap damage_of same2)
