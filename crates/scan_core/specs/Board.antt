@@ -67,22 +67,27 @@ empty_view = record { claims = []; rows = 0; reports = 0; least = None; seen_row
 abbrev pub once_below : ℕ → ℕ → ℕ
 once_below x n = if nat_lt x n then 1 else 0
 
--- the view with one more claim, at its end, with one more report, with a report of damage, and with what was seen
+-- the view with one more claim
 abbrev pub claimed : ScanView → ℕ → ScanView
 claimed v n = record v { claims = v.claims ++ n ∷ [] }
 
+-- the view once no block was left
 abbrev pub ending : ScanView → ScanView
 ending v = record v { ended = true }
 
+-- the view with the rows of one more block
 abbrev pub reported : ScanView → ℕ → ScanView
 reported v n = record v { rows = v.rows + n; reports = v.reports + 1 }
 
+-- the view with one more damaged block
 abbrev pub harmed : ScanView → ℕ → ScanView
 harmed v b = record v { least = lesser v.least (Some b) }
 
+-- the view once these rows were seen
 abbrev pub saw_rows : ScanView → ℕ → ScanView
 saw_rows v n = record v { seen_rows = n }
 
+-- the view once this damage was seen
 abbrev pub saw_damage : ScanView → Option ℕ → ScanView
 saw_damage v d = record v { seen_damage = d }
 
@@ -98,5 +103,6 @@ joined v w = record {
   ended = v.ended || w.ended;
 }
 
+-- a state by its parts
 abbrev pub scan : ℕ → Option ℕ → ℕ → ℕ → Option ℕ → List ScanView → Scan
 scan b e n r d vs = record { blocks = b; enough = e; next = n; rows = r; damage = d; views = vs }

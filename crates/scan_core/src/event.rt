@@ -1,6 +1,4 @@
 //! One event, and what it tells.
-use std::error::Error;
-use std::fmt;
 
 /// What one seat does to the state. The first number is the seat's place among the views.
 #[derive(Clone, Copy, Debug, PartialEq, Eq)]
@@ -42,15 +40,3 @@ pub enum StepFault {
     /// There was no memory for one more claim.
     OutOfMemory,
 }
-
-impl fmt::Display for StepFault {
-    fn fmt<W: fmt::Write>(&self, f: &mut fmt::Formatter<W>) -> fmt::Result {
-        match self {
-            StepFault::NoSuchSeat => write!(f, "no such seat"),
-            StepFault::Unlawful => write!(f, "unlawful event"),
-            StepFault::OutOfMemory => write!(f, "out of memory"),
-        }
-    }
-}
-
-impl Error for StepFault {}
