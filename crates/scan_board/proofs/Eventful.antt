@@ -1,5 +1,5 @@
 -- Each kind of step is one event of the machine.
-use Rattle.std.proofs.Common.{◌≡◌, ℕ, ◌+◌, ◌*◌, ◌%◌, ◌^◌, ◌<◌, ◌≤◌, min, Option, Some, List, [], map, length, get_or, set, sym, refl, ap, ◌∙◌, arith, get_or-set_same, get_or-set_other, nat_lt, if◌then◌else◌}
+use Rattle.std.proofs.Common.{◌≡◌, ℕ, ◌+◌, ◌%◌, ◌^◌, ◌<◌, min, Option, Some, List, map, get_or, set, sym, ap, ◌∙◌, arith, get_or-set_same, get_or-set_other, if◌then◌else◌}
 use Rattle.std.proofs.lemmas.List.{map-set}
 use mathlib.Core.Option.{some}
 use mathlib.Core.Logic.{dite}
@@ -15,8 +15,8 @@ use Rattle.scan_core.proofs.Running.{lt_true, lt_false}
 use Rattle.scan_board.specs.declared.running.Running.{Running}
 use Rattle.scan_board.specs.declared.running.BoardKey.{BoardKey}
 use Rattle.scan_board.specs.Damage.{damage_of}
-use Rattle.scan_board.specs.Rule.{shown, Holds, Claims, Reports, Harms, LooksAtRows, LooksAtDamage}
-use Rattle.scan_board.specs.Steps.{IsStep, IsEvent}
+use Rattle.scan_board.specs.Rule.{shown, Claims, Reports, Harms, LooksAtRows, LooksAtDamage}
+use Rattle.scan_board.specs.Steps.{IsEvent}
 use Rattle.scan_board.proofs.Moves.{view_at, past_in_seats, damage-min}
 use Rattle.scan_board.proofs.Joining.{at_is}
 

@@ -1,5 +1,5 @@
 -- What holds after every list of events.
-use Rattle.std.proofs.Common.{◌≡◌, ℕ, zero, suc, ◌+◌, ◌*◌, ◌<◌, ◌≤◌, ◌≢◌, ◌⊎◌, Bool, true, false, Option, Some, None, List, [], ◌∷◌, ◌++◌, length, get_or, set, sym, refl, ap, ◌∙◌, subst, arith, replicate, add-one, nat_lt, if◌then◌else◌}
+use Rattle.std.proofs.Common.{◌≡◌, ℕ, zero, suc, ◌+◌, ◌<◌, ◌≤◌, Bool, true, false, Option, Some, None, List, [], ◌∷◌, ◌++◌, length, get_or, sym, refl, ap, ◌∙◌, subst, arith, replicate, add-one, nat_lt, if◌then◌else◌}
 use Rattle.std.proofs.lemmas.Bool.Decides.{nat_tests}
 use mathlib.Core.Option.{some, some-injective, some-ne-none}
 use mathlib.Core.Logic.{dite}
@@ -8,11 +8,11 @@ use lib.ListN.{get_elem?}
 use Rattle.scan_core.specs.declared.view.ScanView.{ScanView}
 use Rattle.scan_core.specs.declared.event.ScanEvent.{ScanEvent}
 use Rattle.scan_core.specs.declared.event.ScanEvent.TheVariants as event
-use Rattle.scan_core.specs.Times.{total, times}
-use Rattle.scan_core.specs.Board.{Scan, Kept, Fits, lesser, AtMost, least_of, empty_view, claimed, ending, reported, harmed, saw_rows, saw_damage}
+use Rattle.scan_core.specs.Times.{total}
+use Rattle.scan_core.specs.Board.{Scan, Kept, Fits, AtMost, least_of, empty_view, claimed, ending}
 use Rattle.scan_core.specs.Events.{at, seat_of, Lawful, with, after, AllLawful, run, opening}
 use Rattle.scan_core.specs.Laws.{AfterAll, CoveredBelow, EndedIsAll, StaysTrue}
-use Rattle.scan_core.proofs.Keeping.{kept_claim, kept_end, kept_rows, kept_damage, kept_look_rows, kept_look_damage, lesser-same, lesser-none, at_most_first, at_most-trans, fits_empty, harm_is_covered, ended_is_all}
+use Rattle.scan_core.proofs.Keeping.{kept_claim, kept_end, kept_rows, kept_damage, kept_look_rows, kept_look_damage, lesser-same, at_most_first, at_most-trans, fits_empty, harm_is_covered, ended_is_all}
 
 pub at_index : {A : Type 0} (l : List A) (i : ℕ) (d : A) → i < length l → get_elem? l i ≡ some (get_or l i d)
 at_index [] i d h = absurd (omega arith)

@@ -1,5 +1,5 @@
 -- The events of a scan, as plain data.
-use Rattle.std.specs.Prelude.{◌≡◌, ℕ, ◌+◌, ◌*◌, ◌<◌, ◌≤◌, Bool, true, false, Option, Some, None, List, [], ◌∷◌, ◌++◌, length, slice_index_or, slice_set, nat_lt, if◌then◌else◌, replicate}
+use Rattle.std.specs.Prelude.{◌≡◌, ℕ, ◌+◌, ◌<◌, ◌≤◌, false, Option, Some, None, List, [], ◌∷◌, length, slice_index_or, slice_set, nat_lt, if◌then◌else◌, replicate}
 use Rattle.scan_core.specs.declared.view.ScanView.{ScanView}
 use Rattle.scan_core.specs.declared.event.ScanEvent.{ScanEvent}
 use Rattle.scan_core.specs.declared.event.ScanEvent.TheVariants as event

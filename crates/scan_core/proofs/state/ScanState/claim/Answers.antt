@@ -1,4 +1,4 @@
-use Rattle.std.proofs.Common.{rules, arith, ◌≡◌, ◌++◌, ◌∷◌, []}
+use Rattle.std.proofs.Common.{rules, ◌≡◌, ◌++◌, ◌∷◌, []}
 use Rattle.scan_core.specs.States.{shown}
 use Rattle.scan_core.proofs.Keeping.{kept_claim, kept_end}
 use Rattle.scan_core.proofs.Running.{at_here}

@@ -1,4 +1,4 @@
-use Rattle.std.proofs.Common.{rules, arith, ◌≡◌, ap, ◌∙◌, nat_eq, nat_lt}
+use Rattle.std.proofs.Common.{arith, ◌≡◌, ap, ◌∙◌, nat_eq, nat_lt}
 use Rattle.std.proofs.lemmas.Bool.Decides.{nat_tests}
 use Rattle.std.specs.List.{list_any}
 use Rattle.scan_core.specs.Times.{times}
