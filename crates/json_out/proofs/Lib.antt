@@ -4,3 +4,4 @@ pub mod Runs
 pub mod OfKind
 pub mod Going
 pub mod Rows
+pub mod MorePairs

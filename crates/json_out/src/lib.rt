@@ -3,8 +3,13 @@
 
 mod clock;
 mod lines;
+mod maker;
 mod texts;
 mod times;
 mod values;
 
 pub use lines::{append_row, row_line};
+pub use maker::LineMaker;
+
+#[cfg(test)]
+mod tests;

@@ -37,6 +37,13 @@ impl Bytes {
         Ok(())
     }
 
+    /// Drops all bytes and keeps their memory.
+    pub fn clear(&mut self)
+        ensures { self.new ≡ [] }
+    {
+        self.all.clear();
+    }
+
     /// The bytes.
     pub fn as_slice(&self) -> &[u8]
         ensures { result.now ≡ self.now }

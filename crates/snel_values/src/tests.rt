@@ -112,6 +112,9 @@ fn keeps_words_bytes_and_steps(rt: HostRuntime) -> Result<(), Fail> {
     bytes.push_all(b"1}")?;
     assert_eq!(rt; bytes.as_slice(), b"{\"a\":1}".as_slice());
     assert_eq!(rt; bytes.len(), 7);
+    bytes.clear();
+    bytes.push_all(b"2")?;
+    assert_eq!(rt; bytes.as_slice(), b"2".as_slice());
 
     let mut steps = Steps::new(rt.alloc());
     steps.push(Step::Name(Text::of(rt.alloc(), "tags")?.copy(rt.alloc())?))?;

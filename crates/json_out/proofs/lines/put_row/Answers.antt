@@ -3,7 +3,7 @@ use Rattle.answer_meaning.specs.Made.{pairs_of}
 use Rattle.answer_meaning.specs.Lines.{line_text}
 use Rattle.ion_cells.specs.Shown.{shown}
 use Rattle.json_out.proofs.Rows.{row_text}
-use Rattle.json_out.proofs.lines.append_row.Goals as goal
+use Rattle.json_out.proofs.lines.put_row.Goals as goal
 
 pub returns : goal.returns
 returns c =
