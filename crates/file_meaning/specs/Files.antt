@@ -1,5 +1,5 @@
 -- Block files, version 1: blocks end to end, an index, a tail. All numbers are big endian.
-use Rattle.std.specs.Prelude.{◌≡◌, ℕ, ◌+◌, ◌^◌, ◌<◌, ◌≤◌, ℤ, List, [], ◌∷◌, ◌++◌, length, take, drop, codes, Option, Some, None, ◌==◌, if◌then◌else◌, FitsSigned, flat_map}
+use Rattle.std.specs.Prelude.{◌≡◌, ℕ, ◌+◌, ◌^◌, ◌≤◌, ℤ, List, [], ◌∷◌, ◌++◌, length, take, drop, codes, Option, Some, None, ◌==◌, if◌then◌else◌, FitsSigned, flat_map}
 use Rattle.std.specs.Int.{to_be_bytes, cast_unsigned, w16, w32, w64}
 use Rattle.std.specs.Str.{IsUtf8}
 use Rattle.value_meaning.specs.Val.{Val}

@@ -1,7 +1,16 @@
 -- Laws of block files.
-use Rattle.std.specs.Prelude.{◌≡◌, ℕ, List}
+use Rattle.std.specs.Prelude.{◌≡◌, ℕ, List, Option, Some, ◌↔◌}
 use Rattle.file_meaning.specs.Files.{Entry, IsFile}
+use Rattle.file_meaning.specs.Reading.{AreBytes, file_in}
 
 -- Bytes are a block file with at most one index.
 abbrev pub OneIndex : Type 0
 OneIndex = (bytes f g : List ℕ) (es ds : List Entry) → IsFile bytes f es → IsFile bytes g ds → (f ≡ g) × (es ≡ ds)
+
+-- the reading of bytes answers this index
+abbrev pub Reads : List ℕ → List ℕ → List Entry → Type 0
+Reads bytes f es = let index : Option (List ℕ × List Entry) = Some (f, es) in file_in bytes ≡ index
+
+-- What reading answers is the index of the file, and there is none where it answers none.
+abbrev pub ReadsExactly : Type 0
+ReadsExactly = (bytes f : List ℕ) (es : List Entry) → AreBytes bytes → (Reads bytes f es ↔ IsFile bytes f es)

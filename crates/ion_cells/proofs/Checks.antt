@@ -1,13 +1,13 @@
 -- What the checks of a cell, of a payload, of cells and of pairs have found.
-use Rattle.std.proofs.Common.{◌≡◌, ◌≢◌, ℕ, zero, suc, ◌-◌, ◌+◌, ◌<◌, ◌≤◌, Bool, true, false, cond, List, [], ◌∷◌, length, take, drop, get_or, Option, Some, None, eqb, refl, sym, ap, ◌∙◌, arith, add-one, drop-cons}
+use Rattle.std.proofs.Common.{◌≡◌, ◌≢◌, ℕ, zero, suc, ◌-◌, ◌+◌, ◌<◌, ◌≤◌, true, false, List, ◌∷◌, length, take, drop, get_or, Option, Some, None, eqb, refl, sym, ap, ◌∙◌, arith, add-one, drop-cons}
 use Rattle.std.proofs.Math.ListN.{drop_of_length-le}
-use Rattle.std.specs.Option.{option_map, option_and_then}
+use Rattle.std.specs.Option.{option_map}
 use Rattle.std.specs.Prelude.{is_some}
 use Rattle.std.proofs.lemmas.Bool.Decides.{nat_tests}
 use Rattle.std.proofs.lemmas.List.{length-drop, drop-drop}
 use Rattle.value_meaning.specs.Val.{Val, list, struct}
 use Rattle.block_meaning.specs.Tables.{Table}
-use Rattle.block_meaning.specs.CellReading.{Reader, head_at, one_byte, or_byte, with_payload, cell_by, cell_to, cells_by, pairs_by, scalar, node}
+use Rattle.block_meaning.specs.CellReading.{head_at, one_byte, with_payload, cell_by, cell_to, cells_by, pairs_by, scalar, node}
 use Rattle.ion_cells.specs.Steps.{payload_to, pair_by}
 use Rattle.block_meaning.proofs.Answered.{some_is}
 use Rattle.ion_cells.proofs.Answered.{there, not_there}

@@ -1,21 +1,21 @@
 -- The first of cells that stand end to end, found by its head alone.
-use Rattle.std.proofs.Common.{◌≡◌, ◌⊎◌, ℕ, zero, suc, ◌-◌, ◌+◌, ◌<◌, ◌≤◌, Bool, true, false, List, [], ◌∷◌, length, take, drop, get_or, Option, Some, None, ltb, add-one, refl, sym, ap, ◌∙◌, arith, inl, inr}
+use Rattle.std.proofs.Common.{◌≡◌, ℕ, suc, ◌-◌, ◌+◌, ◌<◌, ◌≤◌, true, false, List, [], ◌∷◌, length, take, drop, Option, Some, None, ltb, add-one, refl, sym, ap, ◌∙◌, arith, inl, inr}
 use Rattle.std.specs.Option.{option_map, option_and_then}
 use Rattle.std.specs.Prelude.{is_some, unwrap_or}
 use Rattle.std.proofs.lemmas.List.{take_rest}
-use Rattle.value_meaning.specs.Val.{Val, Vals, Fields, val, field, items, pairs}
+use Rattle.value_meaning.specs.Val.{Val, Vals, Fields, val, field}
 use Rattle.block_meaning.specs.Tables.{Table, text_of}
-use Rattle.block_meaning.specs.CellReading.{Reader, head_at, one_byte, with_payload, cell_by, cell_to, cells_by, pairs_by, is_cell, cell_value, blank_table}
+use Rattle.block_meaning.specs.CellReading.{head_at, one_byte, cell_by, cell_to, cells_by, pairs_by, is_cell, cell_value, blank_table}
 use Rattle.block_meaning.specs.Numbers.{var_uint}
 use Rattle.std.proofs.lemmas.Bool.{ltb-false}
 use Rattle.block_meaning.proofs.Answered.{chosen, some_is, none_is, then_is, map_is}
 use Rattle.block_meaning.proofs.Symbols.{same_symbols, text_of_range}
 use Rattle.block_meaning.proofs.LastSymbol.{length_blank, same_ends, same_cells, same_pairs}
-use Rattle.block_meaning.proofs.CellSteps.{ends, cell_shrinks, cells_next, cells_stop, pairs_next, var_uint_shrinks, First, first_of_cells, some_read}
+use Rattle.block_meaning.proofs.CellSteps.{ends, cell_shrinks, cells_next, cells_stop, pairs_next, var_uint_shrinks, first_of_cells}
 use Rattle.ion_cells.specs.Standing.{HasLast}
 use Rattle.ion_cells.specs.Steps.{payload_to}
 use Rattle.ion_cells.specs.Left.{are_items, are_fields, values_read, values_of, pairs_read, pairs_of, name_of, named, behind_cell}
-use Rattle.ion_cells.proofs.Answered.{there, not_there}
+use Rattle.ion_cells.proofs.Answered.{there}
 use Rattle.ion_cells.proofs.PairSteps.{cell_to_is}
 use Rattle.ion_cells.proofs.Stands.{same_last}
 

@@ -3,7 +3,7 @@ use Rattle.std.proofs.Common.{◌≡◌, ℕ, zero, suc, ◌<◌, ◌≤◌, Boo
 use Rattle.std.specs.Option.{option_map, option_and_then}
 use Rattle.std.specs.Prelude.{is_some, not, ◌||◌, nat_lt}
 use Rattle.std.proofs.lemmas.Bool.{ltb-false}
-use Rattle.value_meaning.specs.Val.{Val, Vals, Fields, val, field}
+use Rattle.value_meaning.specs.Val.{Val, field}
 use Rattle.block_meaning.specs.Numbers.{var_uint}
 use Rattle.block_meaning.specs.Tables.{Table, text_of}
 use Rattle.block_meaning.specs.CellReading.{Reader, cell_by, flat_cell, cell_to, pairs_by}

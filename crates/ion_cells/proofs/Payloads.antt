@@ -1,8 +1,8 @@
 -- What a payload of each type denotes.
-use Rattle.std.proofs.Common.{◌≡◌, ◌≢◌, ◌⊎◌, ℕ, zero, suc, ◌-◌, ◌+◌, ◌*◌, ◌^◌, ◌<◌, ◌≤◌, ℤ, pos, negsuc, Bool, true, false, cond, List, [], ◌∷◌, length, take, drop, get_or, Option, Some, None, eqb, ltb, refl, sym, ap, ◌∙◌, arith, inl, inr}
+use Rattle.std.proofs.Common.{◌≡◌, ◌⊎◌, ℕ, zero, suc, ◌-◌, ◌+◌, ◌^◌, ◌<◌, ◌≤◌, ℤ, pos, negsuc, Bool, true, false, cond, List, [], ◌∷◌, length, take, drop, get_or, Option, Some, None, eqb, ltb, refl, sym, ap, ◌∙◌, arith, inl, inr}
 use Rattle.std.proofs.Math.Seq.{take-length}
-use Rattle.std.specs.Option.{option_map, option_and_then}
-use Rattle.std.specs.Prelude.{is_some, if◌then◌else◌, ◌==◌}
+use Rattle.std.specs.Option.{option_map}
+use Rattle.std.specs.Prelude.{is_some}
 use Rattle.std.specs.Str.{is_utf8}
 use Rattle.std.proofs.lemmas.Bool.{ltb-false}
 use Rattle.std.proofs.lemmas.Bool.Decides.{nat_tests}
@@ -12,16 +12,15 @@ use Rattle.value_meaning.specs.Val.{Val, Vals, Fields, null, truth, int, time, t
 use Rattle.block_meaning.specs.Numbers.{magnitude}
 use Rattle.block_meaning.specs.Timestamps.{timestamp}
 use Rattle.block_meaning.specs.Tables.{Table, text_of}
-use Rattle.block_meaning.specs.CellReading.{Reader, head_at, is_null_byte, one_byte, with_payload, whole, below_zero, negative, symbol, scalar, node, cell_by, cell_to, cells_by, pairs_by, is_cell, cell_value, blank_table}
-use Rattle.block_meaning.specs.Blocks.{payload_of, only_payload}
+use Rattle.block_meaning.specs.CellReading.{head_at, is_null_byte, one_byte, with_payload, whole, below_zero, negative, symbol, scalar, node, cell_by, cell_to, cells_by, pairs_by, is_cell, cell_value, blank_table}
 use Rattle.block_meaning.proofs.Answered.{chosen, some_is, none_is, map_is}
 use Rattle.block_meaning.proofs.CellSteps.{head_shrinks}
 use Rattle.block_meaning.proofs.LastSymbol.{length_blank}
 use Rattle.ion_cells.specs.Standing.{HasLast}
 use Rattle.ion_cells.specs.Steps.{payload_to}
 use Rattle.ion_cells.specs.Parts.{IsAlone, HasPart}
-use Rattle.ion_cells.proofs.Answered.{there, not_there}
-use Rattle.ion_cells.proofs.Checks.{flat_payload, by_head, by_byte}
+use Rattle.ion_cells.proofs.Answered.{there}
+use Rattle.ion_cells.proofs.Checks.{by_head, by_byte}
 use Rattle.ion_cells.proofs.PairSteps.{cell_to_is}
 use Rattle.ion_cells.proofs.Stands.{legal_read}
 
@@ -86,11 +85,11 @@ module _ (table : Table) (t : ℕ) (payload : List ℕ) (v : Val) where
               | inr f ↦ elim (chosen (eqb t 8) _ _ _ f.1) [
                 | inl g ↦ let w = cond_some (is_utf8 payload) _ _ g.1 in a_text (is 8 g.0) w.0 (sym w.1)
                 | inr g ↦ absurd cc
-                ]
               ]
             ]
           ]
         ]
+      ]
 
   node_is : node (cell_to table 127) table t payload ≡ Some v → Denotes table t payload v
   unfolding node
@@ -100,8 +99,8 @@ module _ (table : Table) (t : ℕ) (payload : List ℕ) (v : Val) where
         | inr a ↦ elim (chosen (eqb t 13) _ _ _ a.1) [
           | inl b ↦ let m = map_is struct (pairs_by (cell_to table 127) table 10 (length payload) payload) v b.1 in a_struct (is 13 b.0) m.0 m.1 (sym m.2)
           | inr b ↦ scalar_is b.1
-          ]
         ]
+      ]
 
   pub denotes : payload_to table 128 t payload ≡ Some v → Denotes table t payload v
   unfolding payload_to
@@ -122,9 +121,9 @@ byte_denotes h v e =
         | inr b ↦ elim (chosen (eqb h 17) _ _ _ b.1) [
           | inl d ↦ a_truth true (grind (arith, nat_tests, d.0)) (some_is _ _ (sym d.1))
           | inr d ↦ absurd cc
-          ]
         ]
       ]
+    ]
 
 abbrev ended : Val → List ℕ → Val × List ℕ
 ended v rest = (v, rest)
@@ -175,9 +174,9 @@ module _ (last : ℕ) (bytes : List ℕ) (legal : is_cell (blank_table last) byt
           record {
             heads = k ∙ ap (λ (m : ℕ). Some (t, m, payload)) count_is;
             value = λ table h.
-              let p = parted table h in
-              let w : take n payload ≡ payload = ap (λ (m : ℕ). take m payload) count_is ∙ take-length payload in
-              ap (λ (z : List ℕ). payload_to table 128 t z) (sym w) ∙ p.1 ∙ ap (λ (x : Val × List ℕ). Some x.0) p.2;
+                let p = parted table h in
+                let w : take n payload ≡ payload = ap (λ (m : ℕ). take m payload) count_is ∙ take-length payload in
+                ap (λ (z : List ℕ). payload_to table 128 t z) (sym w) ∙ p.1 ∙ ap (λ (x : Val × List ℕ). Some x.0) p.2;
           }
 
     pub part_is : (t n start : ℕ) → head_at bytes ≡ Some (t, n, drop start bytes) → HasPart last bytes t (take (start + n - start) (drop start bytes))

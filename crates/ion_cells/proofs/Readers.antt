@@ -1,13 +1,13 @@
 -- What each reader of a cell gives, by the parts of the cell.
-use Rattle.std.proofs.Common.{◌≡◌, ◌≢◌, ◌⊎◌, ℕ, zero, suc, ◌-◌, ◌+◌, ◌*◌, ◌/◌, ◌%◌, ◌^◌, ◌<◌, ◌≤◌, ℤ, pos, negsuc, Bool, true, false, cond, List, [], ◌∷◌, length, take, drop, get_or, Option, Some, None, eqb, ltb, refl, sym, ap, subst, ◌∙◌, arith, inl, inr}
+use Rattle.std.proofs.Common.{◌≡◌, ◌≢◌, ℕ, suc, ◌-◌, ◌+◌, ◌*◌, ◌%◌, ◌^◌, ◌<◌, ◌≤◌, ℤ, pos, negsuc, Bool, true, false, cond, List, [], ◌∷◌, length, take, get_or, Option, Some, None, eqb, ltb, refl, subst, arith, inl, inr}
 use Rattle.std.proofs.Math.Seq.{take-length}
 use Rattle.std.proofs.Math.ListN.{drop_of_length-le}
 use Rattle.std.specs.Option.{option_map, option_and_then}
 use Rattle.std.specs.Prelude.{is_some, if◌then◌else◌, ◌==◌}
-use Rattle.std.specs.Str.{is_utf8, IsUtf8}
+use Rattle.std.specs.Str.{IsUtf8}
 use Rattle.std.proofs.lemmas.Str.{IsUtf8-from_is_utf8}
 use Rattle.std.proofs.lemmas.Bool.Decides.{nat_tests}
-use Rattle.value_meaning.specs.Val.{Val, null, truth, int, time, text, list, struct}
+use Rattle.value_meaning.specs.Val.{Val, null, truth}
 use Rattle.time_meaning.specs.Moments.{IsTime}
 use Rattle.block_meaning.specs.Numbers.{magnitude}
 use Rattle.block_meaning.specs.Timestamps.{timestamp}

@@ -1,6 +1,6 @@
 -- Numbers of 63 bits as signed ones.
-use Rattle.std.proofs.Common.{◌≡◌, ℕ, ◌^◌, ◌<◌, ◌-ℤ◌, ℤ, pos, negsuc, refl, sym, ◌∙◌, ap, arith, to_z, of_z, to_z-of_z, FitsSigned, w64}
-use Rattle.std.proofs.lemmas.Int.{to_z_pos, ints}
+use Rattle.std.proofs.Common.{◌≡◌, ℕ, ◌^◌, ◌<◌, ◌-ℤ◌, pos, negsuc, arith, to_z, of_z, to_z-of_z, w64}
+use Rattle.std.proofs.lemmas.Int.{to_z_pos}
 use Rattle.jiff_core.proofs.SignedLemmas.{signed_arith}
 
 pub whole_is : (n : ℕ) → n < 2 ^ 63 → to_z w64 n ≡ pos n

@@ -1,5 +1,5 @@
 -- One step of reading within a cell: a payload, and a pair of a struct.
-use Rattle.std.specs.Prelude.{ℕ, zero, suc, List, Option, Some, None, nat_lt, ◌||◌, not, is_some, if◌then◌else◌}
+use Rattle.std.specs.Prelude.{ℕ, zero, suc, List, Option, None, nat_lt, ◌||◌, not, is_some, if◌then◌else◌}
 use Rattle.std.specs.Option.{option_map, option_and_then}
 use Rattle.value_meaning.specs.Val.{Val}
 use Rattle.block_meaning.specs.Numbers.{var_uint}

@@ -108,7 +108,11 @@ impl<'b> Cell<'b> {
             → option_map (λ s. s.now) result ≡ (if is_symbol_cell self.now then None else text_in (shown table self.now)) }
     {
         match part(self.bytes, self.last) {
-            Some((kind, payload)) => if kind == 8 { Some(unsafe { std::str::from_utf8_unchecked(payload) }) } else { None },
+            Some((kind, payload)) => if kind == 8 {
+                Some(unsafe { std::str::from_utf8_unchecked(payload) })
+            } else {
+                None
+            },
             None => None,
         }
     }
@@ -120,7 +124,11 @@ impl<'b> Cell<'b> {
         ensures text { IfSome result (λ n. (table : Table) → Fits table self.now → text_of table n ≡ text_in (shown table self.now)) }
     {
         match part(self.bytes, self.last) {
-            Some((kind, payload)) => if kind == 7 { Some(magnitude(payload) as u32) } else { None },
+            Some((kind, payload)) => if kind == 7 {
+                Some(magnitude(payload) as u32)
+            } else {
+                None
+            },
             None => None,
         }
     }
@@ -131,7 +139,11 @@ impl<'b> Cell<'b> {
         ensures last { IfSome result (λ s. items_last s ≡ cell_last self.now) }
     {
         match part(self.bytes, self.last) {
-            Some((kind, payload)) => if kind == 11 { Some(Cells::of_bytes(payload, self.last)) } else { None },
+            Some((kind, payload)) => if kind == 11 {
+                Some(Cells::of_bytes(payload, self.last))
+            } else {
+                None
+            },
             None => None,
         }
     }
@@ -142,7 +154,11 @@ impl<'b> Cell<'b> {
         ensures last { IfSome result (λ s. fields_last s ≡ cell_last self.now) }
     {
         match part(self.bytes, self.last) {
-            Some((kind, payload)) => if kind == 13 { Some(Fields::of_bytes(payload, self.last)) } else { None },
+            Some((kind, payload)) => if kind == 13 {
+                Some(Fields::of_bytes(payload, self.last))
+            } else {
+                None
+            },
             None => None,
         }
     }

@@ -24,7 +24,11 @@ pub(crate) fn check_to(bytes: &[u8], at: usize, last: u32, room: u8) -> Option<u
     }
     let head = head(bytes, at)?;
     let end = head.start + head.count;
-    if is_payload(head.kind, &bytes[head.start..end], last, room) { Some(end) } else { None }
+    if is_payload(head.kind, &bytes[head.start..end], last, room) {
+        Some(end)
+    } else {
+        None
+    }
 }
 
 /// Whether the payload is one of its type, within which lists and structs may stand `room` deep.

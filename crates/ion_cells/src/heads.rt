@@ -28,7 +28,11 @@ fn counted(bytes: &[u8], at: usize, kind: u8, least: u32) -> Option<CellHead>
     if count < least || bytes.len() - start < count as usize {
         None
     } else {
-        Some(CellHead { kind, count: count as usize, start })
+        Some(CellHead {
+            kind,
+            count: count as usize,
+            start,
+        })
     }
 }
 
@@ -52,7 +56,11 @@ pub fn head(bytes: &[u8], at: usize) -> Option<CellHead>
         if bytes.len() - (at + 1) < count {
             None
         } else {
-            Some(CellHead { kind: first / 16, count, start: at + 1 })
+            Some(CellHead {
+                kind: first / 16,
+                count,
+                start: at + 1,
+            })
         }
     } else if first % 16 == 14 {
         counted(bytes, at + 1, first / 16, 0)
@@ -69,7 +77,10 @@ pub fn payload(kind: u8, bytes: &[u8]) -> Option<(&[u8], &[u8])>
 {
     let head = head(bytes, 0)?;
     if head.kind == kind {
-        Some((&bytes[head.start..head.start + head.count], &bytes[head.start + head.count..]))
+        Some((
+            &bytes[head.start..head.start + head.count],
+            &bytes[head.start + head.count..],
+        ))
     } else {
         None
     }

@@ -70,7 +70,11 @@ impl<'b> Fields<'b> {
         ensures last { fields_last result ≡ last }
         ensures pairs { (table : Table) → pairs_left table result ≡ pairs_of table 10 rest.now }
     {
-        Fields { rest, last, low: 10 }
+        Fields {
+            rest,
+            last,
+            low: 10,
+        }
     }
 }
 

@@ -19,7 +19,11 @@ pub enum Kind {
 pub(crate) fn byte_kind(byte: u8) -> Kind
     ensures { result ≡ kind_by_byte byte }
 {
-    if byte == 16 || byte == 17 { Kind::Bool } else { Kind::Null }
+    if byte == 16 || byte == 17 {
+        Kind::Bool
+    } else {
+        Kind::Null
+    }
 }
 
 /// The kind of a cell that holds a payload of this type.

@@ -13,7 +13,10 @@ use simdutf8::basic;
 pub(crate) fn is_one_byte(byte: u8) -> bool
     ensures { result ≡ is_some (one_byte byte) }
 {
-    matches!(byte, 15 | 16 | 17 | 31 | 47 | 63 | 111 | 127 | 143 | 191 | 223)
+    matches!(
+        byte,
+        15 | 16 | 17 | 31 | 47 | 63 | 111 | 127 | 143 | 191 | 223
+    )
 }
 
 /// Whether the bytes are UTF-8.

@@ -1,13 +1,24 @@
-use crate::{BadCell, Cell, CellHead, Kind, cell_at, check_cell, head, magnitude, only_payload, payload, var_uint};
+use crate::{
+    BadCell, Cell, CellHead, Kind, cell_at, check_cell, head, magnitude, only_payload, payload,
+    var_uint,
+};
 use std::alloc::AllocError;
 
 /// The place after the cell at the front, under a table whose last number is 12.
 fn end_of(cell: &[u8], depth: u8) -> Option<u32> {
-    if cell.len() < 1 << 31 { check_cell(cell, 0, 12, depth).ok() } else { None }
+    if cell.len() < 1 << 31 {
+        check_cell(cell, 0, 12, depth).ok()
+    } else {
+        None
+    }
 }
 
 fn cell(bytes: &[u8]) -> Result<Cell<'_>, BadCell> {
-    if bytes.len() < 1 << 31 { cell_at(bytes, 0, 12) } else { Err(BadCell) }
+    if bytes.len() < 1 << 31 {
+        cell_at(bytes, 0, 12)
+    } else {
+        Err(BadCell)
+    }
 }
 
 /// One cell for each first byte that begins one, where texts have the numbers 10 to 12. No other byte begins a cell.
@@ -45,10 +56,18 @@ const CELLS: &[&[u8]] = &[
     &[0x67, 0x80, 0x0F, 0xB2, 0x81, 0x82, 0x80, 0xBB],
     &[0x68, 0x80, 0x0F, 0xB2, 0x81, 0x82, 0x97, 0xBB, 0xBB],
     &[0x69, 0x80, 0x0F, 0xB2, 0x81, 0x82, 0x80, 0x80, 0x80, 0xC1],
-    &[0x6A, 0x80, 0x0F, 0xB2, 0x81, 0x82, 0x80, 0x80, 0x80, 0xC1, 9],
-    &[0x6B, 0x80, 0x0F, 0xB2, 0x81, 0x82, 0x80, 0x80, 0x80, 0xC3, 0x03, 0xE7],
-    &[0x6C, 0x80, 0x0F, 0xB2, 0x81, 0x82, 0x80, 0x80, 0x80, 0xC6, 0x0F, 0x42, 0x3F],
-    &[0x6D, 0x80, 0x0F, 0xB2, 0x81, 0x82, 0x80, 0x80, 0x80, 0xD2, 0, 0, 0, 1],
+    &[
+        0x6A, 0x80, 0x0F, 0xB2, 0x81, 0x82, 0x80, 0x80, 0x80, 0xC1, 9,
+    ],
+    &[
+        0x6B, 0x80, 0x0F, 0xB2, 0x81, 0x82, 0x80, 0x80, 0x80, 0xC3, 0x03, 0xE7,
+    ],
+    &[
+        0x6C, 0x80, 0x0F, 0xB2, 0x81, 0x82, 0x80, 0x80, 0x80, 0xC6, 0x0F, 0x42, 0x3F,
+    ],
+    &[
+        0x6D, 0x80, 0x0F, 0xB2, 0x81, 0x82, 0x80, 0x80, 0x80, 0xD2, 0, 0, 0, 1,
+    ],
     &[0x6E, 0x82, 0x80, 0x81],
     &[0x6F],
     &[0x71, 10],
@@ -83,10 +102,18 @@ const CELLS: &[&[u8]] = &[
     &[0xB7, 0x0F, 0x0F, 0x0F, 0x0F, 0x0F, 0x0F, 0x0F],
     &[0xB8, 0x0F, 0x0F, 0x0F, 0x0F, 0x0F, 0x0F, 0x0F, 0x0F],
     &[0xB9, 0x0F, 0x0F, 0x0F, 0x0F, 0x0F, 0x0F, 0x0F, 0x0F, 0x0F],
-    &[0xBA, 0x0F, 0x0F, 0x0F, 0x0F, 0x0F, 0x0F, 0x0F, 0x0F, 0x0F, 0x0F],
-    &[0xBB, 0x0F, 0x0F, 0x0F, 0x0F, 0x0F, 0x0F, 0x0F, 0x0F, 0x0F, 0x0F, 0x0F],
-    &[0xBC, 0x0F, 0x0F, 0x0F, 0x0F, 0x0F, 0x0F, 0x0F, 0x0F, 0x0F, 0x0F, 0x0F, 0x0F],
-    &[0xBD, 0x0F, 0x0F, 0x0F, 0x0F, 0x0F, 0x0F, 0x0F, 0x0F, 0x0F, 0x0F, 0x0F, 0x0F, 0x0F],
+    &[
+        0xBA, 0x0F, 0x0F, 0x0F, 0x0F, 0x0F, 0x0F, 0x0F, 0x0F, 0x0F, 0x0F,
+    ],
+    &[
+        0xBB, 0x0F, 0x0F, 0x0F, 0x0F, 0x0F, 0x0F, 0x0F, 0x0F, 0x0F, 0x0F, 0x0F,
+    ],
+    &[
+        0xBC, 0x0F, 0x0F, 0x0F, 0x0F, 0x0F, 0x0F, 0x0F, 0x0F, 0x0F, 0x0F, 0x0F, 0x0F,
+    ],
+    &[
+        0xBD, 0x0F, 0x0F, 0x0F, 0x0F, 0x0F, 0x0F, 0x0F, 0x0F, 0x0F, 0x0F, 0x0F, 0x0F, 0x0F,
+    ],
     &[0xBE, 0x81, 0x0F],
     &[0xBF],
     &[0xD0],
@@ -122,9 +149,15 @@ const TAILS: &[[u8; 14]] = &[
     [1; 14],
     [0x0F; 14],
     [0x80; 14],
-    [0x81, 0x0B, 0x81, 0x0B, 0x81, 0x0B, 0x81, 0x0B, 0x81, 0x0B, 0x81, 0x0B, 0x81, 0x0B],
-    [0x82, 0x8A, 0x0F, 0x8A, 0x0F, 0x8A, 0x0F, 0x8A, 0x0F, 0x8A, 0x0F, 0x8A, 0x0F, 0x8A],
-    [0x80, 0x0F, 0xB2, 0x81, 0x82, 0x80, 0x80, 0x80, 0xC6, 0, 0, 0, 0, 0],
+    [
+        0x81, 0x0B, 0x81, 0x0B, 0x81, 0x0B, 0x81, 0x0B, 0x81, 0x0B, 0x81, 0x0B, 0x81, 0x0B,
+    ],
+    [
+        0x82, 0x8A, 0x0F, 0x8A, 0x0F, 0x8A, 0x0F, 0x8A, 0x0F, 0x8A, 0x0F, 0x8A, 0x0F, 0x8A,
+    ],
+    [
+        0x80, 0x0F, 0xB2, 0x81, 0x82, 0x80, 0x80, 0x80, 0xC6, 0, 0, 0, 0, 0,
+    ],
     *b"aaaaaaaaaaaaaa",
 ];
 
@@ -135,9 +168,17 @@ fn each_first_byte_begins_a_cell_or_none(rt: HostRuntime) {
         match with_first(first) {
             Some(cell) => {
                 count = count.wrapping_add(1);
-                assert_eq!(rt; end_of(cell, 0).map(|end| end as usize), Some(cell.len()), "{first}");
+                assert_eq!(rt;
+                    end_of(cell, 0).map(|end| end as usize),
+                    Some(cell.len()),
+                    "{first}"
+                );
                 assert!(rt; !cell.is_empty());
-                assert_eq!(rt; end_of(&cell[..cell.len() - 1], 0), None, "{first} cut short");
+                assert_eq!(rt;
+                    end_of(&cell[..cell.len() - 1], 0),
+                    None,
+                    "{first} cut short"
+                );
             }
             None => {
                 for tail in TAILS {
@@ -221,7 +262,10 @@ fn lists_nest_to_depth_128(rt: HostRuntime) -> Result<(), AllocError> {
     wrap(&mut row, 13)?;
     row.as_mut_slice().reverse();
     let size = row.len();
-    assert_eq!(rt; end_of(row.as_slice(), 0).map(|end| end as usize), Some(size));
+    assert_eq!(rt;
+        end_of(row.as_slice(), 0).map(|end| end as usize),
+        Some(size)
+    );
     assert_eq!(rt; end_of(row.as_slice(), 1), None);
     wrap(&mut back, 11)?;
     back.push(0x8A)?;
@@ -234,8 +278,14 @@ fn lists_nest_to_depth_128(rt: HostRuntime) -> Result<(), AllocError> {
 
 #[test]
 fn readers_show_the_value(rt: HostRuntime) -> Result<(), BadCell> {
-    assert_eq!(rt; cell(b"\x28\x7F\xFF\xFF\xFF\xFF\xFF\xFF\xFF")?.int(), Some(i64::MAX));
-    assert_eq!(rt; cell(b"\x38\x80\x00\x00\x00\x00\x00\x00\x00")?.int(), Some(i64::MIN));
+    assert_eq!(rt;
+        cell(b"\x28\x7F\xFF\xFF\xFF\xFF\xFF\xFF\xFF")?.int(),
+        Some(i64::MAX)
+    );
+    assert_eq!(rt;
+        cell(b"\x38\x80\x00\x00\x00\x00\x00\x00\x00")?.int(),
+        Some(i64::MIN)
+    );
     assert_eq!(rt; cell(b"\x20")?.int(), Some(0));
     assert_eq!(rt; cell(b"\x32\x01\x00")?.int(), Some(-256));
     assert_eq!(rt; cell(b"\x10")?.boolean(), Some(false));
@@ -267,12 +317,21 @@ fn readers_show_the_value(rt: HostRuntime) -> Result<(), BadCell> {
 #[test]
 fn times_are_cut_to_microseconds(rt: HostRuntime) -> Result<(), BadCell> {
     let times: &[(&[u8], i64)] = &[
-        (b"\x6C\x80\x0F\xE8\x82\x9D\x97\xBB\xBB\xC6\x0F\x42\x3F", 1_709_251_199_999_999),
+        (
+            b"\x6C\x80\x0F\xE8\x82\x9D\x97\xBB\xBB\xC6\x0F\x42\x3F",
+            1_709_251_199_999_999,
+        ),
         (b"\x63\xC0\x0F\xB2", 0),
         (b"\x64\x04\xE2\x0F\xB2", 0),
         (b"\x62\x80\x81", -62_135_596_800_000_000),
-        (b"\x6D\x80\x4E\x8F\x8C\x9F\x97\xBB\xBB\xC9\x3B\x9A\xC9\xFF", 253_402_300_799_999_999),
-        (b"\x6D\x80\x0F\xB2\x81\x81\x80\x80\x80\xC9\x00\x00\x07\xCF", 1),
+        (
+            b"\x6D\x80\x4E\x8F\x8C\x9F\x97\xBB\xBB\xC9\x3B\x9A\xC9\xFF",
+            253_402_300_799_999_999,
+        ),
+        (
+            b"\x6D\x80\x0F\xB2\x81\x81\x80\x80\x80\xC9\x00\x00\x07\xCF",
+            1,
+        ),
     ];
     for (bytes, micros) in times {
         assert_eq!(rt; cell(*bytes)?.micros(), Some(*micros), "{bytes:?}");
@@ -284,15 +343,23 @@ fn times_are_cut_to_microseconds(rt: HostRuntime) -> Result<(), BadCell> {
 #[test]
 fn a_row_gives_its_pairs_and_a_list_its_cells(rt: HostRuntime) -> Result<(), BadCell> {
     let row = cell(b"\xD9\x8A\xB4\x21\x01\x11\x0F\x8C\x71\x0B")?;
-    let Some(mut fields) = row.fields() else { return Err(BadCell) };
-    let Some((label, list)) = fields.next() else { return Err(BadCell) };
+    let Some(mut fields) = row.fields() else {
+        return Err(BadCell)
+    };
+    let Some((label, list)) = fields.next() else {
+        return Err(BadCell)
+    };
     assert_eq!(rt; label, 10);
-    let Some(mut items) = list.items() else { return Err(BadCell) };
+    let Some(mut items) = list.items() else {
+        return Err(BadCell)
+    };
     assert_eq!(rt; items.next().and_then(|item| item.int()), Some(1));
     assert_eq!(rt; items.next().and_then(|item| item.boolean()), Some(true));
     assert_eq!(rt; items.next().map(|item| item.kind()), Some(Kind::Null));
     assert!(rt; items.next().is_none());
-    let Some((label, text)) = fields.next() else { return Err(BadCell) };
+    let Some((label, text)) = fields.next() else {
+        return Err(BadCell)
+    };
     assert_eq!(rt; label, 12);
     assert_eq!(rt; text.symbol(), Some(11));
     assert!(rt; fields.next().is_none());
@@ -307,7 +374,14 @@ fn numbers_and_heads_are_read(rt: HostRuntime) {
     assert_eq!(rt; var_uint(&[0, 0, 0, 0x84], 0), Some((4, 4)));
     assert_eq!(rt; var_uint(&[0, 0, 0, 0, 0x84], 0), None);
     assert_eq!(rt; magnitude(&[1, 2, 3]), 66_051);
-    assert_eq!(rt; head(&[0xBE, 0x83, 1, 2, 3], 0), Some(CellHead { kind: 11, count: 3, start: 2 }));
+    assert_eq!(rt;
+        head(&[0xBE, 0x83, 1, 2, 3], 0),
+        Some(CellHead {
+            kind: 11,
+            count: 3,
+            start: 2
+        })
+    );
     assert_eq!(rt; payload(8, b"\x82ab!"), Some((&b"ab"[..], &b"!"[..])));
     assert_eq!(rt; only_payload(8, b"\x82ab"), Some(&b"ab"[..]));
     assert_eq!(rt; only_payload(8, b"\x82ab!"), None);

@@ -12,7 +12,11 @@ fn or_least(bytes: &[u8], least: u32) -> Option<(u32, &[u8])>
     ensures number { option_map (λ x. (x.0, x.1.now)) result ≡ spec.or_least least bytes.now }
     ensures small { IfSome result (λ x. x.0 < 2 ^ 28) }
 {
-    if bytes.is_empty() { Some((least, bytes)) } else { next_uint(bytes) }
+    if bytes.is_empty() {
+        Some((least, bytes))
+    } else {
+        next_uint(bytes)
+    }
 }
 
 /// The hour and the minute, 0 and 0 where nothing is left.
@@ -68,16 +72,37 @@ fn fraction(bytes: &[u8]) -> Option<u32>
 /// The microseconds from 1970 on of a date, a clock time and microseconds, where the calendar has the date and the
 /// clock the time.
 #[tactic(auto, unfolding(block_meaning::specs::Timestamps::moment_of, time_meaning::specs::Moments::is_real, time_meaning::specs::Moments::moment))]
-fn moment_of(year: u32, month: u32, day: u32, hour: u32, minute: u32, second: u32, micros: u32) -> Option<i64>
+fn moment_of(
+    year: u32,
+    month: u32,
+    day: u32,
+    hour: u32,
+    minute: u32,
+    second: u32,
+    micros: u32,
+) -> Option<i64>
     requires { micros < 1_000_000 }
     ensures { result ≡ spec.moment_of year month day hour minute second micros }
 {
-    if year < 1 || year > 9999 || month > 12 || day > 31 || hour > 23 || minute > 59 || second > 59 {
+    if year < 1
+        || year > 9999
+        || month > 12
+        || day > 31
+        || hour > 23
+        || minute > 59
+        || second > 59
+    {
         return None;
     }
-    let Ok(date) = Date::new(year as i16, month as i8, day as i8) else { return None };
+    let Ok(date) = Date::new(year as i16, month as i8, day as i8) else {
+        return None
+    };
     let seconds = (hour * 60 + minute) * 60 + second;
-    Some(i64::from(date.to_unix_epoch_day()) * 86_400_000_000 + i64::from(seconds) * 1_000_000 + i64::from(micros))
+    Some(
+        i64::from(date.to_unix_epoch_day()) * 86_400_000_000
+            + i64::from(seconds) * 1_000_000
+            + i64::from(micros),
+    )
 }
 
 /// The microseconds from 1970-01-01T00:00:00Z on of the time that the payload of a timestamp denotes.

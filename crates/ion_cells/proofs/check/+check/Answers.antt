@@ -1,4 +1,4 @@
-use Rattle.std.proofs.Common.{◌≡◌, ◌-◌, ◌∙◌, sym, length, drop, take, arith, refl}
+use Rattle.std.proofs.Common.{◌∙◌, sym, arith}
 use Rattle.block_meaning.specs.CellReading.{blank_table}
 use Rattle.ion_cells.proofs.Checks.{past_end, byte_end, no_head, payload_end, payload_none, flat_payload, list_payload, struct_payload, no_room, cells_on, cells_end, pairs_on, pairs_end}
 use Rattle.ion_cells.proofs.check.+check.Goals as goal

@@ -1,4 +1,4 @@
-use Rattle.std.proofs.Common.{refl, sym, ◌∙◌}
+use Rattle.std.proofs.Common.{sym, ◌∙◌}
 use Rattle.block_meaning.proofs.Answered.{none_is}
 use Rattle.ion_cells.specs.Shown.{shown}
 use Rattle.ion_cells.proofs.Going.{behind_marked, label_some, label_range, behind_some, field_legal, fields_left, pairs_first, no_pairs, no_label}

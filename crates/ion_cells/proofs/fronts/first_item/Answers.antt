@@ -1,4 +1,3 @@
-use Rattle.std.proofs.Common.{refl, sym, ◌∙◌, ap}
 use Rattle.ion_cells.specs.Shown.{shown}
 use Rattle.ion_cells.proofs.Going.{some_found, item_legal, others_legal, values_first, no_values, none_found}
 use Rattle.ion_cells.proofs.fronts.first_item.Goals as goal

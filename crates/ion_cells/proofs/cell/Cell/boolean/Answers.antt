@@ -1,7 +1,4 @@
-use Rattle.std.proofs.Common.{◌≡◌, ◌<◌, ◌∙◌, sym, ap, refl, arith, length}
-use Rattle.block_meaning.specs.CellReading.{blank_table}
-use Rattle.block_meaning.proofs.LastSymbol.{length_blank}
-use Rattle.ion_cells.specs.Shown.{shown, cell_bytes, cell_last, is_symbol_cell}
+use Rattle.ion_cells.specs.Shown.{shown, cell_bytes, cell_last}
 use Rattle.ion_cells.proofs.Payloads.{some_bytes}
 use Rattle.ion_cells.proofs.Readers.{true_is, false_is, no_truth_is}
 use Rattle.ion_cells.proofs.cell.Cell.boolean.Goals as goal

@@ -1,8 +1,7 @@
-use Rattle.std.proofs.Common.{◌≡◌, ◌<◌, ◌∙◌, suc, ◌-◌, ◌^◌, sym, ap, refl, arith, length, Some, Option, None, ℤ}
-use Rattle.std.specs.Prelude.{IfSome}
+use Rattle.std.proofs.Common.{◌≡◌, ◌-◌, arith}
 use Rattle.block_meaning.specs.CellReading.{blank_table}
 use Rattle.block_meaning.proofs.LastSymbol.{length_blank}
-use Rattle.ion_cells.specs.Shown.{shown, cell_bytes, cell_last, is_symbol_cell}
+use Rattle.ion_cells.specs.Shown.{shown, cell_bytes, cell_last}
 use Rattle.ion_cells.proofs.Signed.{whole_is, below_zero_is}
 use Rattle.ion_cells.proofs.Readers.{int_alone, whole_part, negative_part, no_int_part}
 use Rattle.ion_cells.proofs.cell.Cell.int.Goals as goal

@@ -1,8 +1,4 @@
-use Rattle.std.proofs.Common.{◌≡◌, ◌<◌, ◌∙◌, suc, ◌-◌, ◌^◌, sym, ap, refl, arith, length, Some, Option, None, ℤ}
-use Rattle.std.specs.Prelude.{IfSome}
-use Rattle.block_meaning.specs.CellReading.{blank_table}
-use Rattle.block_meaning.proofs.LastSymbol.{length_blank}
-use Rattle.ion_cells.specs.Shown.{shown, cell_bytes, cell_last, is_symbol_cell}
+use Rattle.ion_cells.specs.Shown.{shown, cell_bytes, cell_last}
 use Rattle.ion_cells.proofs.Readers.{items_alone, list_legal, list_part, no_items_part}
 use Rattle.ion_cells.proofs.cell.Cell.items.Goals as goal
 

@@ -1,10 +1,9 @@
 use Rattle.std.specs.Prelude.{IfSome}
 use Rattle.time_meaning.specs.Moments.{IsTime}
-use Rattle.std.proofs.Common.{ℤ, Option, Some, None, ◌≡◌, ◌<◌, ◌∙◌, sym, ap, refl, arith, length}
+use Rattle.std.proofs.Common.{ℤ, Option, Some, None, ◌≡◌, ◌∙◌, sym, refl}
 use Rattle.block_meaning.specs.CellReading.{blank_table}
 use Rattle.block_meaning.proofs.LastSymbol.{length_blank}
-use Rattle.ion_cells.specs.Shown.{shown, cell_bytes, cell_last, is_symbol_cell}
-use Rattle.ion_cells.proofs.Payloads.{some_bytes}
+use Rattle.ion_cells.specs.Shown.{shown, cell_bytes, cell_last}
 use Rattle.ion_cells.proofs.Readers.{time_range, time_alone, time_part, no_time_part}
 use Rattle.ion_cells.proofs.cell.Cell.micros.Goals as goal
 

@@ -1,8 +1,5 @@
-use Rattle.std.proofs.Common.{◌≡◌, ◌<◌, ◌∙◌, suc, ◌-◌, ◌^◌, sym, ap, refl, arith, length, Some, Option, None, ℤ}
-use Rattle.std.specs.Prelude.{IfSome}
-use Rattle.block_meaning.specs.CellReading.{blank_table}
-use Rattle.block_meaning.proofs.LastSymbol.{length_blank}
-use Rattle.ion_cells.specs.Shown.{shown, cell_bytes, cell_last, is_symbol_cell}
+use Rattle.std.proofs.Common.{refl, arith}
+use Rattle.ion_cells.specs.Shown.{shown, cell_bytes, cell_last}
 use Rattle.ion_cells.proofs.Readers.{symbol_fits, symbol_is, no_symbol_is, no_symbol, symbol_part}
 use Rattle.ion_cells.proofs.cell.Cell.symbol.Goals as goal
 

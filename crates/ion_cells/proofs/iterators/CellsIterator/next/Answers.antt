@@ -1,4 +1,4 @@
-use Rattle.std.proofs.Common.{◌≡◌, refl, ap, length, arith, rules}
+use Rattle.std.proofs.Common.{refl, ap, length, rules}
 use Rattle.block_meaning.specs.CellReading.{blank_table}
 use Rattle.block_meaning.proofs.LastSymbol.{length_blank}
 use Rattle.ion_cells.specs.Iterating.{items_last, values_left}

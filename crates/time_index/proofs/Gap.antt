@@ -1,0 +1,12 @@
+-- A tail that is read.
+use Rattle.std.proofs.Common.{◌≡◌, ℕ, ◌-◌, ◌≤◌, Bool, true, List, length, Option, Some, None, refl, sym, arith}
+use Rattle.std.specs.Prelude.{nat_le}
+use Rattle.std.proofs.lemmas.Bool.Decides.{nat_tests}
+use Rattle.file_meaning.specs.Reading.{u64_at, has_magic, gap_in}
+
+pub gap_some : (at gap : ℕ) (tail : List ℕ) → has_magic 8 tail ≡ true → gap ≡ at - u64_at 0 tail → 10 ≤ gap → gap ≤ 33_554_697 → gap_in at tail ≡ Some gap
+unfolding gap_in
+gap_some at gap tail magic is low high =
+    let enough : nat_le 10 gap ≡ true = grind (arith, nat_tests) in
+    let few : nat_le gap 33_554_697 ≡ true = grind (arith, nat_tests) in
+    rw (magic, sym is, enough, few) refl
