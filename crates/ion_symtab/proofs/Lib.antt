@@ -1,3 +1,5 @@
 pub mod Lookups
 pub mod TextsRead
 pub mod TableRead
+pub mod CellKinds
+pub mod Members

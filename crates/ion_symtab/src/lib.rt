@@ -8,7 +8,9 @@ mod table;
 #[cfg(test)]
 mod tests;
 mod texts;
+mod values;
 
 pub use fault::TabFault;
 pub use reading::read;
 pub use table::SymTab;
+pub use values::value_of;

@@ -1,4 +1,6 @@
-use crate::{SymTab, TabFault, read};
+use crate::{SymTab, TabFault, read, value_of};
+use ion_cells::cell_at;
+use snel_values::{Items, OutOfMemory, Pairs, Text, Value, same};
 use std::alloc::Global;
 use std::process::Abort;
 use std::test::Fail;
@@ -124,5 +126,52 @@ fn refuses_what_is_no_table(rt: HostRuntime) {
     ];
     for (what, bytes) in bad {
         assert!(rt; is_bad(rt.alloc(), bytes), "{what}");
+    }
+}
+
+/// The struct of `a` and `b`.
+fn structure(alloc: Global, a: Value, b: Value) -> Result<Value, OutOfMemory> {
+    let mut pairs = Pairs::new(alloc);
+    pairs.push(Text::of(alloc, "a")?, a)?;
+    let b_name = Text::of(alloc, "b")?;
+    if pairs.is_above_last(b_name.as_str()) {
+        pairs.push(b_name, b)?;
+    }
+    Ok(Value::Struct(pairs))
+}
+
+/// `{"a":[1,true,null,"b",-3],"b":{"a":0001-01-01T00:00:00Z,"b":"x"}}`
+fn wanted(alloc: Global) -> Result<Value, OutOfMemory> {
+    let mut items = Items::new(alloc);
+    items.push(Value::Int(1))?;
+    items.push(Value::Bool(true))?;
+    items.push(Value::Null)?;
+    items.push(Value::Text(Text::of(alloc, "b")?))?;
+    items.push(Value::Int(-3))?;
+    let inner = structure(
+        alloc,
+        Value::Time(-62_135_596_800_000_000),
+        Value::Text(Text::of(alloc, "x")?),
+    )?;
+    structure(alloc, Value::List(items), inner)
+}
+
+#[test]
+fn makes_the_value_of_a_cell(rt: HostRuntime) -> Result<(), Fail> {
+    const CELL: &[u8] = &[
+        0xDE, 0x93, 0x8A, 0xB8, 0x21, 0x01, 0x11, 0x0F, 0x71, 0x0B, 0x31, 0x03, 0x8B, 0xD7, 0x8A,
+        0x62, 0x80, 0x81, 0x8B, 0x81, 0x78,
+    ];
+    match read(rt.alloc(), BLOCK, 4) {
+        Ok((table, _)) => match cell_at(CELL, 0, 11) {
+            Ok(cell) => {
+                assert_eq!(rt; table.last(), 11);
+                let value = value_of(rt.alloc(), &cell, &table)?;
+                assert!(rt; same(&value, &wanted(rt.alloc())?));
+                Ok(())
+            }
+            Err(_) => Err("no cell".into()),
+        },
+        Err(_) => Err("no table".into()),
     }
 }
