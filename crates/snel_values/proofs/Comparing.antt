@@ -1,18 +1,14 @@
 -- Two lists of values, compared from a place on.
-use Rattle.std.proofs.Common.{◌≡◌, ℕ, zero, suc, ◌+◌, ◌<◌, ◌≤◌, true, false, List, [], ◌∷◌, ◌++◌, length, get_or, drop, map, min, refl, sym, ◌∙◌, arith, add-one, drop-cons, Ordering, Option, Some, nat_eq, take}
+use Rattle.std.proofs.Common.{◌≡◌, ℕ, zero, suc, ◌+◌, ◌<◌, ◌≤◌, true, false, List, [], ◌∷◌, length, get_or, drop, map, min, refl, sym, ◌∙◌, arith, add-one, drop-cons, Ordering}
 use Rattle.std.specs.declared.cmp.Ordering.TheVariants.{Less, Equal, Greater}
 use Rattle.std.specs.Bool.{◌==◌}
 use Rattle.std.specs.Ordering.{ordering_then, ordering_index, nat_cmp}
-use Rattle.std.specs.Cmp.Lexicographic.{slice_cmp, pointwise}
-use Rattle.std.proofs.Math.Seq.{take-suc}
-use Rattle.std.proofs.lemmas.List.{get_or-map, length-map, map-append}
+use Rattle.std.specs.Cmp.Lexicographic.{slice_cmp}
+use Rattle.std.proofs.lemmas.List.{get_or-map, length-map}
 use Rattle.std.proofs.lemmas.Grind.{common_steps}
 use Rattle.std.proofs.lemmas.Bool.Decides.{nat_tests}
 use mathlib.Core.Bool.{not}
-use Rattle.std.specs.Str.{IsUtf8}
 use Rattle.value_meaning.specs.Val.{Val, vals, fields}
-use Rattle.value_meaning.specs.Pairs.{Pairs, IsAboveLast, value_of}
-use Rattle.value_meaning.specs.Sound.{IsSound, AreSound, HasSoundFields}
 use Rattle.value_meaning.specs.Order.{val_cmp, vals_cmp, fields_cmp}
 use Rattle.snel_values.specs.declared.value.Value.{Value}
 use Rattle.snel_values.specs.declared.pairs.Pair.{Pair}
@@ -91,4 +87,3 @@ pairs_end xs ys i p q w o h k m e g is sofar =
     let ly = length-map ys pair_view in
     let last = pairs_ended (map pair_view xs) (map pair_view ys) i (omega (arith, lx)) (omega (arith, ly)) (omega (arith, lx, ly)) in
     is ∙ (rw (e, g, ← lx, ← ly) refl) ∙ sym (sofar ∙ last)
-

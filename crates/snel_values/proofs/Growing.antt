@@ -1,22 +1,12 @@
 -- A list with one more element at its end.
-use Rattle.std.proofs.Common.{◌≡◌, ℕ, zero, suc, ◌+◌, ◌<◌, ◌≤◌, true, false, List, [], ◌∷◌, ◌++◌, length, get_or, drop, map, min, refl, sym, ◌∙◌, arith, add-one, drop-cons, Ordering, Option, Some, nat_eq, take}
-use Rattle.std.specs.declared.cmp.Ordering.TheVariants.{Less, Equal, Greater}
-use Rattle.std.specs.Bool.{◌==◌}
-use Rattle.std.specs.Ordering.{ordering_then, ordering_index, nat_cmp}
-use Rattle.std.specs.Cmp.Lexicographic.{slice_cmp, pointwise}
+use Rattle.std.proofs.Common.{◌≡◌, ℕ, ◌+◌, ◌<◌, List, [], ◌∷◌, ◌++◌, length, get_or, map, refl, arith, add-one, take}
 use Rattle.std.proofs.Math.Seq.{take-suc}
-use Rattle.std.proofs.lemmas.List.{get_or-map, length-map, map-append}
+use Rattle.std.proofs.lemmas.List.{get_or-map, map-append}
 use Rattle.std.proofs.lemmas.Grind.{common_steps}
-use Rattle.std.proofs.lemmas.Bool.Decides.{nat_tests}
-use mathlib.Core.Bool.{not}
 use Rattle.std.specs.Str.{IsUtf8}
 use Rattle.value_meaning.specs.Val.{Val, vals, fields}
-use Rattle.value_meaning.specs.Pairs.{Pairs, IsAboveLast, value_of}
+use Rattle.value_meaning.specs.Pairs.{Pairs, IsAboveLast}
 use Rattle.value_meaning.specs.Sound.{IsSound, AreSound, HasSoundFields}
-use Rattle.value_meaning.specs.Order.{val_cmp, vals_cmp, fields_cmp}
-use Rattle.snel_values.specs.declared.value.Value.{Value}
-use Rattle.snel_values.specs.declared.pairs.Pair.{Pair}
-use Rattle.snel_values.specs.View.{view, pair_view}
 
 -- one more element is copied
 pub copied : {A B : Type 0} (f : A → B) (all new xs : List A) (i : ℕ) (x y : A) → i < length xs → x ≡ get_or xs i x → f y ≡ f x → new ≡ all ++ y ∷ [] → map f all ≡ take i (map f xs) → map f new ≡ take (i + 1) (map f xs)

@@ -1,5 +1,5 @@
 -- The last name of pairs, and which names are above it.
-use Rattle.std.proofs.Common.{◌≡◌, ◌↔◌, ℕ, suc, ◌-◌, List, [], ◌∷◌, length, map, Option, Some, slice_get, refl, sym, ap, ◌∙◌, arith}
+use Rattle.std.proofs.Common.{◌≡◌, ◌↔◌, ℕ, suc, ◌-◌, List, [], ◌∷◌, length, map, Some, slice_get, refl, sym, ap, ◌∙◌, arith}
 use Rattle.value_meaning.specs.Pairs.{Pairs, IsBelow, IsAboveLast, last_name}
 use Rattle.snel_values.specs.declared.pairs.Pair.{Pair}
 use Rattle.snel_values.specs.View.{pair_view}

@@ -5,9 +5,9 @@ ghost use Rattle.value_meaning.specs.Val.{vals};
 ghost use Rattle.value_meaning.specs.Order.{vals_cmp};
 ghost use Rattle.value_meaning.specs.Sound.{AreSound};
 
+use crate::memory::OutOfMemory;
 use crate::ordering::order;
 use crate::value::Value;
-use crate::memory::OutOfMemory;
 use std::alloc::Global;
 use std::cmp::Ordering;
 use std::marker::Model;

@@ -28,6 +28,5 @@ pub use text::Text;
 pub use value::Value;
 pub use words::Words;
 
-
 #[cfg(test)]
 mod tests;

@@ -1,4 +1,7 @@
-use crate::{Bytes, Items, MadeRow, MadeRows, OutOfMemory, Pairs, Step, Steps, Text, Value, Words, order, same};
+use crate::{
+    Bytes, Items, MadeRow, MadeRows, OutOfMemory, Pairs, Step, Steps, Text, Value, Words, order,
+    same,
+};
 use std::alloc::Global;
 use std::test::Fail;
 

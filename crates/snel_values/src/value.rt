@@ -1,9 +1,9 @@
 ghost use Rattle.std.specs.Prelude.{◌≡◌, IfOk};
 
 use crate::items::Items;
+use crate::memory::OutOfMemory;
 use crate::pairs::Pairs;
 use crate::text::Text;
-use crate::memory::OutOfMemory;
 use std::alloc::Global;
 
 /// A value of a row: a column, an item, or what an expression makes. A `Time` counts microseconds from
