@@ -1,0 +1,13 @@
+pub mod Answered
+pub mod NumberReading
+pub mod TimeReading
+pub mod CellReading
+pub mod NestedReading
+pub mod CellSteps
+pub mod Symbols
+pub mod LastSymbol
+pub mod TimeRange
+pub mod SoundCells
+pub mod TableReading
+pub mod BlockReading
+pub mod Worked

@@ -4,7 +4,7 @@ use Rattle.std.specs.Option.{option_map, option_and_then}
 use Rattle.std.specs.Ordering.{nat_cmp, is_lt}
 use Rattle.std.specs.Cmp.Lexicographic.{slice_cmp}
 use Rattle.std.specs.Str.{IsUtf8, is_utf8}
-use Rattle.value_meaning.specs.Val.{Val, Vals, Fields, list, struct, vals, items, no_vals, val}
+use Rattle.value_meaning.specs.Val.{Val, struct, vals, items}
 use Rattle.block_meaning.specs.Numbers.{IsVarUInt, var_uint}
 use Rattle.block_meaning.specs.Tables.{Table, TextsRise}
 use Rattle.block_meaning.specs.Cells.{HasPayload, AreCells}

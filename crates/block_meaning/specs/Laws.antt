@@ -1,5 +1,5 @@
 -- Laws of cells, symbol tables and blocks.
-use Rattle.std.specs.Prelude.{◌≡◌, ◌↔◌, ℕ, ◌-◌, List, ◌++◌, length, Option, Some, IsTrue}
+use Rattle.std.specs.Prelude.{◌≡◌, ◌↔◌, ℕ, ◌-◌, List, ◌++◌, length, Some, IsTrue}
 use Rattle.std.specs.Option.{option_map}
 use Rattle.time_meaning.specs.Moments.{is_time}
 use Rattle.value_meaning.specs.Val.{Val, Vals, Fields, missing, null, truth, int, time, text, list, struct, no_vals, val, no_fields, field, vals}

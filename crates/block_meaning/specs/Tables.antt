@@ -1,5 +1,5 @@
 -- The symbol table of a block (Ion 1.0, "Local symbol tables"): its texts, strictly increasing by bytes and numbered from 10.
-use Rattle.std.specs.Prelude.{◌≡◌, ℕ, suc, ◌+◌, List, [], ◌∷◌, length, Option, Some, None, ◌==◌, if◌then◌else◌}
+use Rattle.std.specs.Prelude.{ℕ, suc, ◌+◌, List, [], ◌∷◌, length, Option, Some, None, ◌==◌, if◌then◌else◌}
 use Rattle.value_meaning.specs.Pairs.{IsBelow}
 
 abbrev pub Table : Type 0

@@ -1,5 +1,5 @@
 -- What files that never fail stand for.
-use Rattle.std.specs.Prelude.{◌++◌, ℕ, List, [], take, drop, replicate, unwrap_or, Option, None}
+use Rattle.std.specs.Prelude.{◌++◌, ℕ, List, [], take, drop, replicate, unwrap_or}
 use Rattle.snel_device.specs.Contents.{Contents}
 use Rattle.snel_device.specs.MemFiles.{stored}
 use Rattle.snel_device.specs.declared.steady_files.SteadyFiles.{SteadyFiles}
@@ -19,7 +19,3 @@ padded bytes at n = take n (drop at bytes ++ replicate n 0)
 -- the bytes of the lent file of this name, or none
 abbrev pub lent_bytes : SteadyFiles → List ℕ → List ℕ
 lent_bytes files name = unwrap_or (lent files name) []
-
--- what they tell of the files: nothing
-abbrev pub untold : Option Contents
-untold = None

@@ -1,3 +1,5 @@
+ghost use Rattle.std.specs.Prelude.{◌≡◌};
+
 use crate::{Failed, Files, FreshFault, SizeFault};
 use std::fs::{File, OpenOptions};
 use std::io::{ErrorKind, Read, Seek, SeekFrom, Write};
@@ -17,7 +19,12 @@ pub struct HostFiles<'r, R: rt::Files> {
 
 impl<'r, R: rt::Files> HostFiles<'r, R> {
     /// The files that the runtime reaches.
-    pub fn new(rt: &'r R) -> Self {
+    pub fn new(rt: &'r R) -> Self
+        ensures read_faults { ⟦<HostFiles<'r, R> as Files>⟧.read_faults result ≡ 0 }
+        ensures write_faults { ⟦<HostFiles<'r, R> as Files>⟧.write_faults result ≡ 0 }
+        ensures misses { ⟦<HostFiles<'r, R> as Files>⟧.misses result ≡ 0 }
+        ensures taken { ⟦<HostFiles<'r, R> as Files>⟧.taken result ≡ 0 }
+    {
         HostFiles {
             rt,
             read_faults: 0,
@@ -42,9 +49,9 @@ impl<'r, R: rt::Files> HostFiles<'r, R> {
 }
 
 impl<R: rt::Files> Files for HostFiles<'_, R> {
-    ghost use Rattle.std.specs.Prelude.{None};
+    ghost use Rattle.snel_device.specs.Untold.{untold_files};
 
-    ghost told = { λ _. None };
+    ghost told = { λ _. untold_files };
 
     ghost read_faults = { λ s. s.read_faults };
 

@@ -1,8 +1,7 @@
-ghost use Rattle.std.specs.Prelude.{◌≡◌, ◌↔◌, ◌<◌, ◌≤◌, ◌++◌, ℕ, List, [], min, length, take, drop, replicate, Option, IfOk, OnOk, OnErr, IsOk, IsErr, IsErrOf, IsSome, IfSome, IsNone, IsSomeAnd, IsTrue, MatchOption, option_copied};
+ghost use Rattle.std.specs.Prelude.{◌≡◌, ◌↔◌, ◌≤◌, ℕ, [], length, take, IfOk, OnOk, OnErr, IsErr, IsErrOf, IsSome, IsSomeAnd, IsTrue, option_copied};
 ghost use Rattle.std.specs.Option.{ForSome};
-ghost use Rattle.std.specs.Io.KnownBytes.{Appends, Consumes, IsAtEnd};
 ghost use Rattle.snel_device.specs.Causes.{HasCause, Takes, raised};
-ghost use Rattle.snel_device.specs.Contents.{with_file, with_piece, IsWithin, HasAt, Sets, Extends};
+ghost use Rattle.snel_device.specs.Contents.{with_file, IsWithin, HasAt, Sets, Extends};
 
 use crate::schedule::Schedule;
 use crate::stored::{copy_part, extend_file, put_file};
@@ -78,6 +77,8 @@ impl MemFiles {
     }
 }
 
+// Each call has the clauses of `Files` at the files that are told here, and after them those on the
+// schedule.
 impl Files for MemFiles {
     ghost use Rattle.std.specs.Prelude.{Some};
     ghost use Rattle.snel_device.specs.MemFiles.{stored, schedule};

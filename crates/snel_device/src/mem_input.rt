@@ -1,8 +1,6 @@
-ghost use Rattle.std.specs.Prelude.{◌≡◌, ◌↔◌, ◌<◌, ◌≤◌, ◌++◌, ℕ, List, [], min, length, take, drop, replicate, Option, IfOk, OnOk, OnErr, IsOk, IsErr, IsErrOf, IsSome, IfSome, IsNone, IsSomeAnd, IsTrue, MatchOption, option_copied};
-ghost use Rattle.std.specs.Option.{ForSome};
-ghost use Rattle.std.specs.Io.KnownBytes.{Appends, Consumes, IsAtEnd};
-ghost use Rattle.snel_device.specs.Causes.{HasCause, Takes, raised};
-ghost use Rattle.snel_device.specs.Contents.{with_file, with_piece, IsWithin, HasAt, Sets, Extends};
+ghost use Rattle.std.specs.Prelude.{◌≡◌, ◌↔◌, ◌<◌, ◌≤◌, min, length, take, IfOk, OnErr, IsErr, IsTrue};
+ghost use Rattle.std.specs.Io.KnownBytes.{Consumes, IsAtEnd};
+ghost use Rattle.snel_device.specs.Causes.{HasCause};
 
 use crate::pieces::copy_front;
 use crate::schedule::Schedule;
@@ -51,6 +49,8 @@ impl MemInput {
     }
 }
 
+// The clauses of `Input` at the bytes that are told here, and after them those on how many bytes
+// come and on the schedule.
 impl Input for MemInput {
     ghost use Rattle.std.specs.Prelude.{Some};
     ghost use Rattle.snel_device.specs.MemInput.{unread, most_per_call, schedule};

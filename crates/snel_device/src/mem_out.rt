@@ -1,8 +1,6 @@
-ghost use Rattle.std.specs.Prelude.{◌≡◌, ◌↔◌, ◌<◌, ◌≤◌, ◌++◌, ℕ, List, [], min, length, take, drop, replicate, Option, IfOk, OnOk, OnErr, IsOk, IsErr, IsErrOf, IsSome, IfSome, IsNone, IsSomeAnd, IsTrue, MatchOption, option_copied};
-ghost use Rattle.std.specs.Option.{ForSome};
-ghost use Rattle.std.specs.Io.KnownBytes.{Appends, Consumes, IsAtEnd};
-ghost use Rattle.snel_device.specs.Causes.{HasCause, Takes, raised};
-ghost use Rattle.snel_device.specs.Contents.{with_file, with_piece, IsWithin, HasAt, Sets, Extends};
+ghost use Rattle.std.specs.Prelude.{◌≡◌, ℕ, [], take, IfOk, OnOk, OnErr, IsErr, IfSome, IsNone};
+ghost use Rattle.std.specs.Io.KnownBytes.{Appends};
+ghost use Rattle.snel_device.specs.Causes.{HasCause, raised};
 
 use crate::{Failed, Out};
 use std::alloc::{AllocError, Global};
@@ -58,6 +56,7 @@ impl MemOut {
     }
 }
 
+// The clauses of `Out` at the bytes that are told here, and after them those on the schedule.
 impl Out for MemOut {
     ghost use Rattle.std.specs.Prelude.{Some};
     ghost use Rattle.snel_device.specs.MemOut.{put_bytes, calls_made, failing_calls, kept_next, Keeps};

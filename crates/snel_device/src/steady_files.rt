@@ -1,8 +1,7 @@
-ghost use Rattle.std.specs.Prelude.{◌≡◌, ◌↔◌, ◌<◌, ◌≤◌, ◌++◌, ℕ, List, [], min, length, take, drop, replicate, Option, IfOk, OnOk, OnErr, IsOk, IsErr, IsErrOf, IsSome, IfSome, IsNone, IsSomeAnd, IsTrue, MatchOption, option_copied};
+ghost use Rattle.std.specs.Prelude.{◌≡◌, ◌↔◌, ℕ, [], length, take, IfOk, OnOk, OnErr, IsErr, IsErrOf, IsSome, IsSomeAnd, MatchOption};
 ghost use Rattle.std.specs.Option.{ForSome};
-ghost use Rattle.std.specs.Io.KnownBytes.{Appends, Consumes, IsAtEnd};
 ghost use Rattle.snel_device.specs.Causes.{HasCause, Takes, raised};
-ghost use Rattle.snel_device.specs.Contents.{with_file, with_piece, IsWithin, HasAt, Sets, Extends};
+ghost use Rattle.snel_device.specs.Contents.{HasAt, Sets, Extends};
 
 use crate::pieces::fill_padded;
 use crate::{Failed, Files, FreshFault, MemFiles, SizeFault};
@@ -42,10 +41,13 @@ impl<'a> SteadyFiles<'a> {
     }
 }
 
+// Each call has the clauses of `Files` where nothing is told, and after them those on what it does
+// with the lent files.
 impl Files for SteadyFiles<'_> {
-    ghost use Rattle.snel_device.specs.SteadyFiles.{lent, lent_bytes, padded, appended_count, untold};
+    ghost use Rattle.snel_device.specs.Untold.{untold_files};
+    ghost use Rattle.snel_device.specs.SteadyFiles.{lent, lent_bytes, padded, appended_count};
 
-    ghost told = { λ _. untold };
+    ghost told = { λ _. untold_files };
 
     ghost read_faults = { λ _. 0 };
 
@@ -57,9 +59,9 @@ impl Files for SteadyFiles<'_> {
 
     /// The length of the lent file, or `Absent` where none of this name was lent.
     fn size(&mut self, name: &str) -> Result<u64, SizeFault>
-        ensures length { IfOk result (λ n. ForSome untold (λ files. IsSomeAnd (files name.now) (λ bytes. n ≡ length bytes))) }
-        ensures absent { IsErrOf result SizeFault.Absent → ForSome untold (λ files. files name.now ≡ None) }
-        ensures failed { IsErrOf result SizeFault.Failed → ForSome untold (λ files. IsSome (files name.now)) }
+        ensures length { IfOk result (λ n. ForSome untold_files (λ files. IsSomeAnd (files name.now) (λ bytes. n ≡ length bytes))) }
+        ensures absent { IsErrOf result SizeFault.Absent → ForSome untold_files (λ files. files name.now ≡ None) }
+        ensures failed { IsErrOf result SizeFault.Failed → ForSome untold_files (λ files. IsSome (files name.now)) }
         ensures fault { HasCause 0 0 (IsErrOf result SizeFault.Failed) }
         ensures missed { HasCause self.old.misses self.new.misses (IsErrOf result SizeFault.Absent) }
         ensures same_taken { self.new.taken ≡ self.old.taken }
@@ -78,7 +80,7 @@ impl Files for SteadyFiles<'_> {
 
     /// The bytes of the lent file, with zeros past its end. Another name reads as an empty file.
     fn read_at(&mut self, name: &str, at: u64, into: &mut [u8]) -> Result<(), Failed>
-        ensures bytes { OnOk result (ForSome untold (λ files. HasAt files name.now at into.new)) }
+        ensures bytes { OnOk result (ForSome untold_files (λ files. HasAt files name.now at into.new)) }
         ensures taken { Takes self.old.taken self.new.taken (length into.old) result }
         ensures fault { HasCause 0 0 (IsErr result) }
         ensures same_misses { self.new.misses ≡ self.old.misses }
@@ -95,9 +97,9 @@ impl Files for SteadyFiles<'_> {
 
     /// `Exists` where a file of this name was lent. A file that is made isn't kept.
     fn fresh(&mut self, name: &str) -> Result<(), FreshFault>
-        ensures made { OnOk result (Sets untold untold name.now []) }
-        ensures unchanged { OnErr result (untold ≡ untold) }
-        ensures exists { ForSome untold (λ files. IsErrOf result FreshFault.Exists ↔ IsSome (files name.now)) }
+        ensures made { OnOk result (Sets untold_files untold_files name.now []) }
+        ensures unchanged { OnErr result (untold_files ≡ untold_files) }
+        ensures exists { ForSome untold_files (λ files. IsErrOf result FreshFault.Exists ↔ IsSome (files name.now)) }
         ensures fault { HasCause 0 0 (IsErrOf result FreshFault.Failed) }
         ensures missed { HasCause self.old.misses self.new.misses (IsErrOf result FreshFault.Exists) }
         ensures same_taken { self.new.taken ≡ self.old.taken }
@@ -114,8 +116,8 @@ impl Files for SteadyFiles<'_> {
 
     /// Counts the bytes of the piece, and keeps none.
     fn append(&mut self, _name: &str, piece: &[u8]) -> Result<(), Failed>
-        ensures grown { OnOk result (Extends untold untold _name.now piece.now) }
-        ensures cut { OnErr result ((n : ℕ) × Extends untold untold _name.now (take n piece.now)) }
+        ensures grown { OnOk result (Extends untold_files untold_files _name.now piece.now) }
+        ensures cut { OnErr result ((n : ℕ) × Extends untold_files untold_files _name.now (take n piece.now)) }
         ensures fault { HasCause 0 0 (IsErr result) }
         ensures same_misses { self.new.misses ≡ self.old.misses }
         ensures same_taken { self.new.taken ≡ self.old.taken }

@@ -1,8 +1,6 @@
-ghost use Rattle.std.specs.Prelude.{◌≡◌, ◌↔◌, ◌<◌, ◌≤◌, ◌++◌, ℕ, List, [], min, length, take, drop, replicate, Option, IfOk, OnOk, OnErr, IsOk, IsErr, IsErrOf, IsSome, IfSome, IsNone, IsSomeAnd, IsTrue, MatchOption, option_copied};
-ghost use Rattle.std.specs.Option.{ForSome};
-ghost use Rattle.std.specs.Io.KnownBytes.{Appends, Consumes, IsAtEnd};
-ghost use Rattle.snel_device.specs.Causes.{HasCause, Takes, raised};
-ghost use Rattle.snel_device.specs.Contents.{with_file, with_piece, IsWithin, HasAt, Sets, Extends};
+ghost use Rattle.std.specs.Prelude.{◌≡◌, ◌<◌, ◌≤◌, min, length, take, IfOk, OnErr, IsErr};
+ghost use Rattle.std.specs.Io.KnownBytes.{Consumes, IsAtEnd};
+ghost use Rattle.snel_device.specs.Causes.{HasCause, raised};
 
 use crate::pieces::copy_front;
 use crate::{Failed, Gate, Input, Out};
@@ -24,6 +22,7 @@ impl<'a> SteadyInput<'a> {
     }
 }
 
+// The clauses of `Input` at the bytes that are told here, and after them how many come.
 impl Input for SteadyInput<'_> {
     ghost use Rattle.std.specs.Prelude.{Some};
     ghost use Rattle.snel_device.specs.SteadyStreams.{unread};
@@ -72,10 +71,10 @@ impl SteadyOut {
 }
 
 impl Out for SteadyOut {
-    ghost use Rattle.std.specs.Prelude.{None};
+    ghost use Rattle.snel_device.specs.Untold.{untold_bytes};
     ghost use Rattle.snel_device.specs.SteadyStreams.{put_count};
 
-    ghost holds = { λ _. None };
+    ghost holds = { λ _. untold_bytes };
 
     ghost faults = { λ _. 0 };
 

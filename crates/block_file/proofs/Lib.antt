@@ -1,0 +1,4 @@
+pub mod RowCells
+pub mod RowAt
+pub mod RowsRead
+pub mod Opened

@@ -1,0 +1,71 @@
+ghost use Rattle.std.specs.Prelude.{◌≡◌, ◌<◌, length, true, Some, slice_get};
+ghost use Rattle.block_meaning.specs.Blocks.{is_struct};
+
+use ion_cells::Cell;
+use ion_symtab::SymTab;
+use std::marker::Model;
+
+/// A checked block, seen as its symbol table and the values of its rows. Its rows lie where they were read.
+#[derive(Drop)]
+pub struct Block<'b> {
+    table: SymTab<'b>,
+    rows: Vec<Cell<'b>>,
+}
+
+impl<'b> Model for Block<'b> {
+    ghost use Rattle.std.specs.Prelude.{List, ℕ, map};
+    ghost use Rattle.value_meaning.specs.Val.{Val};
+    ghost use Rattle.value_meaning.specs.Code.{coded_val};
+    ghost use Rattle.std.specs.Coded.{coded_list, coded×, coded_ℕ};
+
+    ghost Value = { List (List ℕ) × List Val };
+
+    ghost coded = { coded× (coded_list (coded_list coded_ℕ)) (coded_list coded_val) };
+
+    ghost use Rattle.ion_cells.specs.Shown.{shown};
+    ghost use Rattle.block_file.specs.Rows.{AreBlockCells};
+
+    ghost view = { λ b. (b.table, map (shown b.table) b.rows.items) };
+
+    ghost invariant = { λ b. AreBlockCells b.table b.rows.items };
+}
+
+impl<'b> Block<'b> {
+    ghost use Rattle.std.specs.Prelude.{◌≡◌, ◌<◌, length, true, Some, slice_get, map};
+    ghost use Rattle.ion_cells.specs.Shown.{Fits, shown};
+    ghost use Rattle.block_file.specs.Rows.{AreBlockCells};
+    ghost use Rattle.block_meaning.specs.Blocks.{is_struct};
+
+    /// The block of this table and these rows.
+    pub(crate) fn of_rows(table: SymTab<'b>, rows: Vec<Cell<'b>>) -> Block<'b>
+        requires { AreBlockCells table rows.items }
+        ensures table { result.0 ≡ table.entry }
+        ensures rows { result.1 ≡ map (shown table.entry) rows.entry.items }
+    {
+        Block { table, rows }
+    }
+
+    /// How many rows the block has, from 1 to 65,536.
+    pub fn rows(&self) -> u32
+        ensures { result ≡ length self.now.1 }
+    {
+        self.rows.len() as u32
+    }
+
+    /// The symbol table of the block.
+    pub fn table(&self) -> &SymTab<'b>
+        ensures { result.now ≡ self.now.0 }
+    {
+        &self.table
+    }
+
+    /// The cell of the row at this place, counted from 0. It is a struct.
+    pub fn row(&self, at: u32) -> Cell<'b>
+        requires { at < length self.now.1 }
+        ensures fits { Fits self.now.0 result }
+        ensures row { slice_get self.now.1 at ≡ Some (shown self.now.0 result) }
+        ensures is_struct { is_struct (shown self.now.0 result) ≡ true }
+    {
+        self.rows[at as usize]
+    }
+}

@@ -1,0 +1,13 @@
+//! Checked blocks, whose rows are read where they lie.
+#![tactic(auto)]
+
+mod block;
+mod fault;
+mod opening;
+mod rows;
+#[cfg(test)]
+mod tests;
+
+pub use block::Block;
+pub use fault::BlockFault;
+pub use opening::open_block;

@@ -1,0 +1,11 @@
+pub mod Answered
+pub mod Bounds
+pub mod Checks
+pub mod Going
+pub mod Moments
+pub mod PairSteps
+pub mod Payloads
+pub mod Readers
+pub mod Signed
+pub mod Stands
+pub mod Symbols

@@ -1,0 +1,23 @@
+//! Cells, read where they lie in the bytes of a block. No call takes memory.
+#![tactic(auto)]
+
+mod cell;
+mod check;
+mod fronts;
+mod heads;
+mod iterators;
+mod kind;
+mod numbers;
+mod parts;
+mod places;
+mod scalars;
+#[cfg(test)]
+mod tests;
+mod times;
+
+pub use cell::Cell;
+pub use heads::{CellHead, head, only_payload, payload};
+pub use iterators::{Cells, Fields};
+pub use kind::Kind;
+pub use numbers::{magnitude, var_uint};
+pub use places::{BadCell, cell_at, check_cell};
