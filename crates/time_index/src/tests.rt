@@ -106,31 +106,25 @@ fn reads_files(rt: HostRuntime) -> Result<(), Fail> {
 #[test]
 fn refuses_other_files(rt: HostRuntime) -> Result<(), Fail> {
     let alloc = rt.alloc();
-    let no_file = Some(IndexFault::NotAFile);
-    assert_eq!(rt; fault_of(alloc, &[], &[])?, no_file);
-    assert_eq!(rt; fault_of(alloc, &ONE_BLOCK[..74], &[])?, no_file);
-    assert_eq!(rt; fault_of(alloc, &EMPTY[1..], &[])?, no_file);
-    assert_eq!(rt;
-        fault_of(alloc, &two_blocks(alloc, 1)?, &[])?,
-        no_file,
-        "blocks overlap"
-    );
-    assert_eq!(rt;
-        fault_of(alloc, &two_blocks(alloc, 3)?, &[])?,
-        no_file,
-        "blocks lie apart"
-    );
+    let overlapping = two_blocks(alloc, 1)?;
+    let apart = two_blocks(alloc, 3)?;
+    // nothing, a file less its last and less its first byte, one with a byte behind its tail, a
+    // name that isn't UTF-8, and blocks that overlap or lie apart
+    let others: [&[u8]; 7] = [
+        &[],
+        &ONE_BLOCK[..74],
+        &EMPTY[1..],
+        b"SNX1\0\0\0\0\0\0\0\0\0\0\0\0\0\0SNX1\0",
+        b"SNX1\0\x01\xFF\0\0\0\0\0\0\0\0\0\0\0\0SNX1",
+        &overlapping,
+        &apart,
+    ];
+    for bytes in others {
+        assert_eq!(rt; fault_of(alloc, bytes, &[])?, Some(IndexFault::NotAFile));
+    }
     assert_eq!(rt;
         fault_of(alloc, b"SNX1\0\x01t\0\0\0\0\0\0\0\0\0\0\0\0SNX1", &[])?,
         None
-    );
-    assert_eq!(rt;
-        fault_of(alloc, b"SNX1\0\x01\xFF\0\0\0\0\0\0\0\0\0\0\0\0SNX1", &[])?,
-        no_file
-    );
-    assert_eq!(rt;
-        fault_of(alloc, b"SNX1\0\0\0\0\0\0\0\0\0\0\0\0\0\0SNX1\0", &[])?,
-        no_file
     );
     Ok(())
 }
@@ -158,11 +152,7 @@ fn refuses_each_changed_byte(rt: HostRuntime) -> Result<(), Fail> {
         (74, 0x32),
     ];
     for (place, byte) in changes {
-        assert_eq!(rt;
-            fault_with(alloc, place, byte)?,
-            Some(IndexFault::NotAFile),
-            "byte {place}"
-        );
+        assert_eq!(rt; fault_with(alloc, place, byte)?, Some(IndexFault::NotAFile));
     }
     // a block's first byte and a least time are another matter
     assert_eq!(rt; fault_with(alloc, 0, 0)?, None);
@@ -176,19 +166,14 @@ fn tells_what_fails(rt: HostRuntime) -> Result<(), Fail> {
     for call in 1..4u32 {
         assert_eq!(rt;
             fault_of(alloc, &ONE_BLOCK, &[call])?,
-            Some(IndexFault::Failed),
-            "call {call}"
+            Some(IndexFault::Failed)
         );
     }
-    assert_eq!(rt;
-        fault_of(alloc, &ONE_BLOCK, &[4])?,
-        None,
-        "there is no fourth call"
-    );
+    // there is no fourth call, and of 21 bytes no tail is read
+    assert_eq!(rt; fault_of(alloc, &ONE_BLOCK, &[4])?, None);
     assert_eq!(rt;
         fault_of(alloc, &EMPTY[1..], &[2])?,
-        Some(IndexFault::NotAFile),
-        "no tail is read"
+        Some(IndexFault::NotAFile)
     );
     let mut files = MemFiles::new(alloc, &[1])?;
     match read_index(alloc, &mut files, "logs") {

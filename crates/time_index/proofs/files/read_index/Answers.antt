@@ -1,4 +1,3 @@
-use Rattle.std.proofs.Common.{◌≡◌, sym, ◌∙◌}
 use Rattle.time_index.proofs.Told.{not_absent, there}
 use Rattle.time_index.proofs.files.read_index.Goals as goal
 

@@ -1,5 +1,4 @@
-use Rattle.std.proofs.Common.{◌≡◌, ℕ, ◌-◌, List, length, drop, sym, ap, ◌∙◌, arith, Option}
-use Rattle.snel_device.specs.Contents.{Contents}
+use Rattle.std.proofs.Common.{◌-◌, sym, ◌∙◌, arith}
 use Rattle.time_index.proofs.Told.{no_gap, no_index, is_file, cost_tail, cost_index, sees, Reads}
 use Rattle.time_index.proofs.Found.{at_some, at_none}
 use Rattle.time_index.proofs.files.read_sized.Goals as goal

@@ -1,6 +1,5 @@
-use Rattle.std.proofs.Common.{◌≡◌, ◌+◌, ℕ, List, sym, ap, ◌∙◌}
+use Rattle.std.proofs.Common.{◌≡◌, ◌+◌, ℕ, sym, ap, ◌∙◌}
 use Rattle.file_meaning.specs.Files.{Entry}
-use Rattle.file_meaning.specs.Reading.{stands_at}
 use Rattle.time_index.proofs.Walk.{stops, steps_to, ends_well, ends_apart}
 use Rattle.time_index.proofs.reading.entries_at.Goals as goal
 use Rattle.time_index.proofs.reading.entries_at.Goals.{then-from-to, else-from-to}

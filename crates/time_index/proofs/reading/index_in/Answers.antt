@@ -1,5 +1,5 @@
-use Rattle.std.proofs.Common.{◌≡◌, ◌+◌, ℕ, List, sym, ap, ◌∙◌, arith, subst, true}
-use Rattle.file_meaning.specs.Reading.{AreBytes, u16_at, u32_at, has_magic, named_at, index_in}
+use Rattle.std.proofs.Common.{◌≡◌, sym, ◌∙◌, arith, true}
+use Rattle.file_meaning.specs.Reading.{AreBytes, u16_at, has_magic}
 use Rattle.time_index.proofs.Found.{spelled_in}
 use Rattle.time_index.proofs.Named.{no_magic, behind_magic, too_short}
 use Rattle.time_index.proofs.reading.index_in.Goals as goal
