@@ -23,12 +23,11 @@ use Rattle.query_meaning.specs.Func as func
 use Rattle.query_meaning.specs.Part.{Part, is_cut_to, is_extracted, is_added}
 use Rattle.query_meaning.specs.AggName as aggs
 use Rattle.query_meaning.specs.Tree.{Step, name, at, Ex, Exs, Arms, lit, path, neg, no, bin, is, member, between, matching, choice, cast, call, trunc, extract, shift, agg_of_rows, agg, exs, no_arms, arm, Outs, star, named, Query}
-use Rattle.query_meaning.specs.Words.{function_word, part_word}
+use Rattle.query_meaning.specs.Words.{function_word, part_word, cast_word}
 use Rattle.query_meaning.specs.Tokens.{Tok, Toks, mark, word, quoted, string, moment, num, no_token}
 use Rattle.query_meaning.specs.Grammar as g
 use Rattle.query_meaning.specs.Grammar.{Head, function, aggregate, truncation, extraction, addition, skip_of}
-use Rattle.query_meaning.specs.Reading
-use Rattle.query_meaning.specs.Reading.{◌>>=◌, match_option, is_mark, after, said, Reader, or_op, and_op, sum_op, term_op, op_of, compare_of, what_of, how_of, literal_of, operator_at, compare_at, what_at, more_by, chain_by, prefixed, name_at, word_at, string_at, num_at, index_at, field_at, step_at, steps_at, is_at, like_at, list_by, among_by, range_by, test_by, is_test, tested_by, pred_by, whens_by, else_by, case_by, parens_by, cast_of, cast_end, cast_by, match_of, part_at, head_at, made_one, made_two, made_many, made, match_end, match_by, args_by, rows_at, call_by, marked_by, word_by, prim_by, minus_by, term_by, sum_by, neg_by, and_by, or_by, expr_at, alias_at, item_by, outputs_by, direction_at, key_by, filter_by, groups_by, order_by, count_at, whole, window_at, raw_in, raw_of, query_of}
+use Rattle.query_meaning.specs.Reading.{◌>>=◌, match_option, is_mark, after, said, Reader, or_op, and_op, sum_op, term_op, op_of, compare_of, what_of, how_of, literal_of, operator_at, compare_at, what_at, more_by, chain_by, prefixed, name_at, word_at, string_at, num_at, index_at, field_at, step_at, steps_at, is_at, like_at, list_by, among_by, range_by, test_by, is_test, tested_by, pred_by, whens_by, else_by, case_by, parens_by, cast_end, cast_by, match_of, part_at, head_at, made_one, made_two, made_many, made, match_end, match_by, args_by, rows_at, call_by, marked_by, word_by, prim_by, minus_by, term_by, sum_by, neg_by, and_by, or_by, expr_at, alias_at, item_by, outputs_by, direction_at, key_by, filter_by, groups_by, order_by, count_at, whole, window_at, raw_in, raw_of, query_of}
 use Rattle.query_meaning.proofs.Steps.{some_is, bind_then, map_then, match_then, if_then, is_mark-true, after-some, said-some, name_at-some, word_at-some, string_at-some, num_at-some}
 
 -- f reads forms of R alone
@@ -207,7 +206,7 @@ is-takes ts r a first x e =
     (λ none h. map_then _ (what_at r) x h (λ w read h2. let s = what-some r w read in rw (← h2) (g.asked s.1 (rw s.2 at first))))
     (λ q not_ h. map_then _ (what_at q) x h (λ w read h2. let s = what-some q w read in rw (← h2) (g.asked_not s.1 (rw (after-some m.Not r q not_, s.2) at first))))
 
-list-takes : (f : Reader Ex) → Takes g.Expr f → (n : ℕ) → Takes g.Exprs (list_by f n)
+pub list-takes : (f : Reader Ex) → Takes g.Expr f → (n : ℕ) → Takes g.Exprs (list_by f n)
 list-takes f t zero ts x e = absurd cc
 list-takes f t (suc n) ts x e =
     bind_then (f ts) _ x e (λ a read h.
@@ -215,12 +214,6 @@ list-takes f t (suc n) ts x e =
     map_then _ (list_by f n r) x h2 (λ o others h3.
     let d = list-takes f t n r o others in
     rw (← h3) (g.more_exprs (rw (after-some m.Comma a.1 r comma) at (t ts a read)) d))))
-
-casts_of : (n : List ℕ) (c : CastTo) → cast_of n ≡ Some c → g.CastsTo n c
-unfolding cast_of
-casts_of n c e =
-    if_then (str_eq_ignore_ascii_case (codes "INTEGER") n) _ _ _ e (λ b h. rw (← some_is _ _ h) (g.to_integer b))
-    (λ b h. if_then (str_eq_ignore_ascii_case (codes "BOOLEAN") n) _ _ _ h (λ b2 h2. rw (← some_is _ _ h2) (g.to_boolean b2)) (λ b2 h2. absurd cc))
 
 -- a part that a function takes, and a mark behind it
 part-some : (takes : Part → Bool) (k : Mark) (ts : Toks) (x : Part × Toks) → part_at takes k ts ≡ Some x → (n : List ℕ) × (part_word n ≡ Some x.0) × (takes x.0 ≡ true) × (ts ≡ word n ∷ mark k ∷ x.1)
@@ -388,9 +381,9 @@ module _ (f : Reader Ex) (t : Takes g.Expr f) where
   cast_ends ts r a first x e =
       bind_then (after m.As r) _ x e (λ q as_ h.
       bind_then (word_at q) _ x h (λ w read h2.
-      bind_then (cast_of w.0) _ x h2 (λ c known h3.
+      bind_then (cast_word w.0) _ x h2 (λ c known h3.
       map_then _ (after m.Close w.1) x h3 (λ u close h4.
-      rw (← h4) (g.a_cast (rw (after-some m.As r q as_, word_at-some q w read, after-some m.Close w.1 u close) at first) (casts_of w.0 c known))))))
+      rw (← h4) (g.a_cast (rw (after-some m.As r q as_, word_at-some q w read, after-some m.Close w.1 u close) at first) known)))))
 
   cast-takes : (ts : Toks) (x : Ex × Toks) → cast_by f ts ≡ Some x → g.Prim (mark m.Cast ∷ ts) x.0 x.1
   unfolding cast_by

@@ -1,7 +1,6 @@
 -- The grammar. Of each form: at the front of the first tokens it can be taken as this tree, and the second tokens are left.
 -- A word that is followed by `(` is no name, since no form goes on with `(` behind a name.
-use Rattle.std.specs.Prelude.{◌≡◌, ℕ, ◌≤◌, ℤ, pos, List, [], ◌∷◌, Bool, true, false, Option, Some, None, IsTrue, codes}
-use Rattle.std.specs.Str.{str_eq_ignore_ascii_case}
+use Rattle.std.specs.Prelude.{◌≡◌, ℕ, ◌≤◌, ℤ, pos, List, [], ◌∷◌, Bool, true, false, Option, Some, None}
 use Rattle.value_meaning.specs.Val.{Val}
 use Rattle.value_meaning.specs.Val as val
 use Rattle.query_meaning.specs.declared.Mark.{Mark}
@@ -17,14 +16,13 @@ use Rattle.query_meaning.specs.IsWhat as what
 use Rattle.query_meaning.specs.How.{How}
 use Rattle.query_meaning.specs.How as how
 use Rattle.query_meaning.specs.CastTo.{CastTo}
-use Rattle.query_meaning.specs.CastTo as to
 use Rattle.query_meaning.specs.Func.{Func}
 use Rattle.query_meaning.specs.Func as func
 use Rattle.query_meaning.specs.Part.{Part, is_cut_to, is_extracted, is_added}
 use Rattle.query_meaning.specs.AggName.{AggName}
 use Rattle.query_meaning.specs.AggName as aggs
 use Rattle.query_meaning.specs.Tree.{Step, name, at, Ex, Exs, Arms, lit, path, neg, no, bin, is, member, between, matching, choice, cast, call, trunc, extract, shift, agg_of_rows, agg, exs, no_arms, arm, Outs, star, named, Query}
-use Rattle.query_meaning.specs.Words.{function_word, part_word}
+use Rattle.query_meaning.specs.Words.{function_word, part_word, cast_word}
 use Rattle.query_meaning.specs.Tokens.{Tok, Toks, mark, word, quoted, string, moment, num}
 use Rattle.query_meaning.specs.RowName.{row_name, without_row}
 
@@ -117,11 +115,6 @@ pub data Makes : Head → List Ex → Ex → Type 0 where
   extracted : {p : Part} {e : Ex} → Makes (extraction p) (e ∷ []) (extract p e)
   shifted : {p : Part} {a e : Ex} → Makes (addition p) (a ∷ e ∷ []) (shift p a e)
 
--- INTEGER and BOOLEAN
-pub data CastsTo : List ℕ → CastTo → Type 0 where
-  to_integer : {n : List ℕ} → str_eq_ignore_ascii_case (codes "INTEGER") n ≡ true → CastsTo n to.integer
-  to_boolean : {n : List ℕ} → str_eq_ignore_ascii_case (codes "BOOLEAN") n ≡ true → CastsTo n to.boolean
-
 -- a word that isn't reserved, or a quoted name
 pub data Name : Tok → List ℕ → Type 0 where
   bare : {n : List ℕ} → Name (word n) n
@@ -179,7 +172,7 @@ mutual
     a_path : {k : Tok} {n : List ℕ} {ss : List Step} {s t : Toks} → Name k n → Steps s ss t → Prim (k ∷ s) (path 0 (name n ∷ ss)) t
     in_parens : {e : Ex} {s t : Toks} → Chain lv.Or s e (mark m.Close ∷ t) → Prim (mark m.Open ∷ s) e t
     a_case : {arms : Arms} {e : Ex} {s t u : Toks} → Whens s arms t → Else t e (mark m.End ∷ u) → Prim (mark m.Case ∷ s) (choice arms e) u
-    a_cast : {n : List ℕ} {c : CastTo} {e : Ex} {s t : Toks} → Chain lv.Or s e (mark m.As ∷ word n ∷ mark m.Close ∷ t) → CastsTo n c → Prim (mark m.Cast ∷ mark m.Open ∷ s) (cast c e) t
+    a_cast : {n : List ℕ} {c : CastTo} {e : Ex} {s t : Toks} → Chain lv.Or s e (mark m.As ∷ word n ∷ mark m.Close ∷ t) → cast_word n ≡ Some c → Prim (mark m.Cast ∷ mark m.Open ∷ s) (cast c e) t
     a_call : {n : List ℕ} {w : FunctionWord} {h : Head} {es : List Ex} {e : Ex} {s t u : Toks} → function_word n ≡ Some w → Opens w s h t → Exprs t es (mark m.Close ∷ u) → Makes h es e → Prim (word n ∷ mark m.Open ∷ s) e u
     a_match : {n : List ℕ} {w : FunctionWord} {h : How} {e : Ex} {p : List ℕ} {s t : Toks} → function_word n ≡ Some w → Matches w h → Chain lv.Or s e (mark m.Comma ∷ string p ∷ mark m.Close ∷ t) → Prim (word n ∷ mark m.Open ∷ s) (matching h e p) t
     a_count : {n : List ℕ} {s : Toks} → function_word n ≡ Some f.Count → Prim (word n ∷ mark m.Open ∷ mark m.Star ∷ mark m.Close ∷ s) (agg_of_rows aggs.count_all) s

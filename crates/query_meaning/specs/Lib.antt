@@ -13,3 +13,4 @@ pub mod Tokens
 pub mod RowName
 pub mod Grammar
 pub mod Reading
+pub mod Laws

@@ -1,7 +1,6 @@
 -- The same by reading from left to right: the tree, and the tokens that are left.
-use Rattle.std.specs.Prelude.{ℕ, zero, suc, pos, nat_le, List, [], ◌∷◌, length, Option, Some, None, Bool, true, false, if◌then◌else◌, codes}
+use Rattle.std.specs.Prelude.{ℕ, zero, suc, pos, nat_le, List, [], ◌∷◌, length, Option, Some, None, Bool, true, false, if◌then◌else◌}
 use Rattle.std.specs.Option.{option_map}
-use Rattle.std.specs.Str.{str_eq_ignore_ascii_case}
 use denote.Enum.Bare.{sameb}
 use Rattle.value_meaning.specs.Val.{Val}
 use Rattle.value_meaning.specs.Val as val
@@ -18,14 +17,12 @@ use Rattle.query_meaning.specs.IsWhat.{IsWhat}
 use Rattle.query_meaning.specs.IsWhat as what
 use Rattle.query_meaning.specs.How.{How}
 use Rattle.query_meaning.specs.How as how
-use Rattle.query_meaning.specs.CastTo.{CastTo}
-use Rattle.query_meaning.specs.CastTo as to
 use Rattle.query_meaning.specs.Func.{Func}
 use Rattle.query_meaning.specs.Func as func
 use Rattle.query_meaning.specs.Part.{Part, is_cut_to, is_extracted, is_added}
 use Rattle.query_meaning.specs.AggName as aggs
 use Rattle.query_meaning.specs.Tree.{Step, name, at, Ex, Exs, Arms, lit, path, neg, no, bin, is, member, between, matching, choice, cast, call, trunc, extract, shift, agg_of_rows, agg, exs, no_arms, arm, Outs, star, named, Query}
-use Rattle.query_meaning.specs.Words.{function_word, part_word}
+use Rattle.query_meaning.specs.Words.{function_word, part_word, cast_word}
 use Rattle.query_meaning.specs.Tokens.{Tok, Toks, mark, word, quoted, string, moment, num, no_token}
 use Rattle.query_meaning.specs.Grammar.{Head, function, aggregate, truncation, extraction, addition, skip_of}
 use Rattle.query_meaning.specs.RowName.{row_name, without_row}
@@ -323,14 +320,9 @@ case_by f n ts = whens_by f n ts >>= λ a. option_map (λ e. (choice a.0 e.0, e.
 unfoldable pub parens_by : Reader Ex → Reader Ex
 parens_by f ts = f ts >>= λ x. option_map (λ r. (x.0, r)) (after m.Close x.1)
 
-unfoldable pub cast_of : List ℕ → Option CastTo
-cast_of n =
-    if str_eq_ignore_ascii_case (codes "INTEGER") n then Some to.integer
-    else (if str_eq_ignore_ascii_case (codes "BOOLEAN") n then Some to.boolean else None)
-
 -- behind the operand of a CAST
 unfoldable pub cast_end : Ex → Reader Ex
-cast_end e ts = after m.As ts >>= λ r. word_at r >>= λ x. cast_of x.0 >>= λ c. option_map (λ t. (cast c e, t)) (after m.Close x.1)
+cast_end e ts = after m.As ts >>= λ r. word_at r >>= λ x. cast_word x.0 >>= λ c. option_map (λ t. (cast c e, t)) (after m.Close x.1)
 
 -- behind CAST
 unfoldable pub cast_by : Reader Ex → Reader Ex

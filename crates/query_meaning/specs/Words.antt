@@ -6,6 +6,8 @@ use Rattle.query_meaning.specs.declared.Mark.{Mark}
 use Rattle.query_meaning.specs.declared.Mark.TheVariants as m
 use Rattle.query_meaning.specs.declared.FunctionWord.{FunctionWord}
 use Rattle.query_meaning.specs.declared.FunctionWord.TheVariants as f
+use Rattle.query_meaning.specs.CastTo.{CastTo}
+use Rattle.query_meaning.specs.CastTo as to
 use Rattle.query_meaning.specs.Part.{Part}
 use Rattle.query_meaning.specs.Part as part
 
@@ -129,3 +131,14 @@ parts = part.microsecond ∷ part.second ∷ part.minute ∷ part.hour ∷ part.
 -- the part of a time that the word names
 unfoldable pub part_word : List ℕ → Option Part
 part_word w = find (λ k. str_eq_ignore_ascii_case (part_text k) w) parts
+
+abbrev pub cast_text : CastTo → List ℕ
+cast_text to.integer = codes "INTEGER"
+cast_text to.boolean = codes "BOOLEAN"
+
+abbrev pub casts : List CastTo
+casts = to.integer ∷ to.boolean ∷ []
+
+-- what the word behind AS in a CAST names
+unfoldable pub cast_word : List ℕ → Option CastTo
+cast_word w = find (λ k. str_eq_ignore_ascii_case (cast_text k) w) casts

@@ -124,3 +124,15 @@ pub enum Level {
     /// `*`, `/` and `%`
     Term,
 }
+
+ghost use Rattle.query_meaning.specs.Laws.{OneQuery, ReadsExactly};
+
+/// A list of tokens has at most one query.
+pub fn one_query()
+    ensures { OneQuery }
+{}
+
+/// Reading answers exactly the query of the tokens.
+pub fn reads_exactly()
+    ensures { ReadsExactly }
+{}
