@@ -1,1 +1,3 @@
 pub mod OrderLaws
+pub mod Chains
+pub mod SoundLaws

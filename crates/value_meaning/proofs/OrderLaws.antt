@@ -1,5 +1,5 @@
 -- The order answers Equal exactly at equal values.
-use Rattle.std.proofs.Common.{arith, ◌<◌, ◌≤◌, sym, ◌≡◌, ℕ, List, Bool, true, false, refl, ap, Ordering}
+use Rattle.std.proofs.Common.{arith, ◌<◌, ◌≤◌, sym, ◌∙◌, ◌≡◌, ℕ, List, Bool, true, false, refl, ap, Ordering}
 use Rattle.std.specs.declared.cmp.Ordering.TheVariants.{Less, Equal, Greater}
 use Rattle.std.specs.Ordering.{nat_cmp, bool_cmp, ordering_then, ordering_reverse}
 use Rattle.std.specs.Cmp.Lexicographic.{slice_cmp}
@@ -7,8 +7,8 @@ use Rattle.std.specs.Cmp.{IsTotalOrder, int_cmp_total}
 use Rattle.std.proofs.lemmas.Cmp.{nat_list_cmp_total}
 use Rattle.std.proofs.lemmas.Map.Lookups.{exact_signed, exact_bytes}
 use Rattle.std.proofs.Common.{[], ◌∷◌}
-use Rattle.value_meaning.specs.Val.{pairs, fields, Val, Vals, Fields, missing, null, truth, int, time, text, list, struct, no_vals, val, no_fields, field}
-use Rattle.value_meaning.specs.Order.{class, val_cmp, vals_cmp, fields_cmp}
+use Rattle.value_meaning.specs.Val.{vals, fields, Val, Vals, Fields, missing, null, truth, int, time, text, list, struct, no_vals, val, no_fields, field}
+use Rattle.value_meaning.specs.Order.{class, val_cmp, vals_cmp, fields_cmp, pair_cmp}
 
 then_first : (o p : Ordering) → ordering_then o p ≡ Equal → o ≡ Equal
 then_first Less p h = h
@@ -210,6 +210,23 @@ val_not_less x y e h =
     let same : val_cmp x y ≡ Equal = rw e (val_same y) in
     cc
 
-pub pairs-fields : (fs : List (List ℕ × Val)) → pairs (fields fs) ≡ fs
-pairs-fields [] = refl
-pairs-fields (f ∷ fs) = λ i. f ∷ pairs-fields fs i
+-- lists compare as std compares slices
+pub vals_cmp-vals : (a b : List Val) → vals_cmp (vals a) (vals b) ≡ slice_cmp val_cmp a b
+vals_cmp-vals [] [] = refl
+vals_cmp-vals [] (w ∷ ws) = refl
+vals_cmp-vals (v ∷ vs) [] = refl
+vals_cmp-vals (v ∷ vs) (w ∷ ws) = ap (ordering_then (val_cmp v w)) (vals_cmp-vals vs ws)
+
+then_then : (o p q : Ordering) → ordering_then o (ordering_then p q) ≡ ordering_then (ordering_then o p) q
+then_then Less p q = refl
+then_then Equal p q = refl
+then_then Greater p q = refl
+
+-- structs compare as std compares slices of pairs
+pub fields_cmp-fields : (a b : List (List ℕ × Val)) → fields_cmp (fields a) (fields b) ≡ slice_cmp pair_cmp a b
+fields_cmp-fields [] [] = refl
+fields_cmp-fields [] (g ∷ gs) = refl
+fields_cmp-fields (f ∷ fs) [] = refl
+fields_cmp-fields (f ∷ fs) (g ∷ gs) =
+    let step = ap (λ (o : Ordering). ordering_then (slice_cmp nat_cmp f.0 g.0) (ordering_then (val_cmp f.1 g.1) o)) (fields_cmp-fields fs gs) in
+    step ∙ then_then (slice_cmp nat_cmp f.0 g.0) (val_cmp f.1 g.1) (slice_cmp pair_cmp fs gs)

@@ -1,11 +1,12 @@
 -- The order of values: by kind, then within the kind.
-use Rattle.std.specs.Prelude.{ℕ}
+use Rattle.std.specs.Prelude.{ℕ, List}
 use Rattle.std.specs.declared.cmp.Ordering.{Ordering}
 use Rattle.std.specs.declared.cmp.Ordering.TheVariants.{Less, Equal, Greater}
 use Rattle.std.specs.Ordering.{nat_cmp, int_cmp, bool_cmp, ordering_then as then}
 use Rattle.std.specs.Cmp.Lexicographic.{slice_cmp}
 use Rattle.value_meaning.specs.Val.{Val, Vals, Fields, missing, null, truth, int, time, text, list, struct, no_vals, val, no_fields, field}
 
+-- the kinds, each below the next; false and true are told apart within theirs
 abbrev pub class : Val → ℕ
 class missing = 0
 class null = 1
@@ -37,3 +38,7 @@ abbrev mutual
   fields_cmp no_fields (field m w ws) = Less
   fields_cmp (field n v vs) no_fields = Greater
   fields_cmp (field n v vs) (field m w ws) = then (slice_cmp nat_cmp n m) (then (val_cmp v w) (fields_cmp vs ws))
+
+-- how two pairs of a struct compare: by the name, and at one name by the value
+abbrev pub pair_cmp : List ℕ × Val → List ℕ × Val → Ordering
+pair_cmp f g = then (slice_cmp nat_cmp f.0 g.0) (val_cmp f.1 g.1)

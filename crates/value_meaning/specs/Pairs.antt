@@ -27,3 +27,9 @@ IsAboveLast n (f ∷ g ∷ fs) = IsAboveLast n (g ∷ fs)
 abbrev pub value_of : List ℕ → Pairs → Option Val
 value_of n [] = None
 value_of n (f ∷ fs) = if pointwise nat_eq f.0 n then Some f.1 else value_of n fs
+
+-- the last name
+abbrev pub last_name : Pairs → Option (List ℕ)
+last_name [] = None
+last_name (f ∷ []) = Some f.0
+last_name (f ∷ g ∷ fs) = last_name (g ∷ fs)
