@@ -1,0 +1,5 @@
+pub mod Names
+pub mod View
+pub mod Falls
+pub mod Parts
+pub mod Queries
