@@ -44,6 +44,11 @@ unfoldable pub is_ended : List ℕ → Bool
 is_ended [] = true
 is_ended (b ∷ bs) = if starts_word b || b == 46 then false else true
 
+-- two quotes in one, if the text is closed behind them, or else the first of them closes it
+abbrev pub or_one : Option ℕ → Option ℕ
+or_one None = Some 1
+or_one (Some n) = Some (suc (suc n))
+
 -- how many bytes there are up to the closing quote, and with it, which doubled quotes are not; the longest, where
 -- a doubled one may close
 abbrev pub closing : ℕ → List ℕ → Option ℕ
@@ -51,11 +56,6 @@ closing quote [] = None
 closing quote (b ∷ []) = if b == quote then Some 1 else None
 closing quote (b ∷ c ∷ bs) =
     if b == quote then (if c == quote then or_one (closing quote bs) else Some 1) else option_map suc (closing quote (c ∷ bs))
-  where
-    -- two quotes in one, if the text is closed behind them
-    or_one : Option ℕ → Option ℕ
-    or_one None = Some 1
-    or_one (Some n) = Some (suc (suc n))
 
 -- the kind and the length of a token
 abbrev pub Cut : Type 0

@@ -3,3 +3,4 @@ pub mod View
 pub mod Falls
 pub mod Parts
 pub mod Queries
+pub mod Classes

@@ -2,11 +2,17 @@
 #![tactic(auto)]
 
 mod arms;
+mod classes;
 mod expr;
 mod lists;
+mod numbers;
 mod query;
+mod quotes;
+mod signs;
 
 pub use arms::{Arm, Arms};
 pub use expr::{Expr, Operand};
 pub use lists::{Exprs, Item, OrderKey, OrderKeys, OutItems};
+pub use numbers::number_of;
 pub use query::{Outputs, Query};
+pub use signs::sign_of;

@@ -87,7 +87,12 @@ impl Model for OutItems {
     ghost use Rattle.std.specs.Prelude.{List, Option, ℕ, map};
     ghost use Rattle.query_meaning.specs.Tree.{Ex};
 
+    ghost use Rattle.query_meaning.specs.Code.{coded_ex};
+    ghost use Rattle.std.specs.Coded.{coded_list, coded×, coded_option, coded_ℕ};
+
     ghost Value = { List (Ex × Option (List ℕ)) };
+
+    ghost coded = { coded_list (coded× coded_ex (coded_option (coded_list coded_ℕ))) };
 
     ghost use Rattle.sql_tree.specs.Parts.{item_view};
 
@@ -145,7 +150,12 @@ impl Model for OrderKeys {
     ghost use Rattle.std.specs.Prelude.{List, Bool, map};
     ghost use Rattle.query_meaning.specs.Tree.{Ex};
 
+    ghost use Rattle.query_meaning.specs.Code.{coded_ex};
+    ghost use Rattle.std.specs.Coded.{coded_list, coded×, coded_bool};
+
     ghost Value = { List (Ex × Bool) };
+
+    ghost coded = { coded_list (coded× coded_ex coded_bool) };
 
     ghost use Rattle.sql_tree.specs.Parts.{key_view};
 
