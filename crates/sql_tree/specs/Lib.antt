@@ -4,3 +4,5 @@ pub mod Falls
 pub mod Parts
 pub mod Queries
 pub mod Classes
+pub mod Cuts
+pub mod Lexes

@@ -1,0 +1,6 @@
+//! The parser of queries.
+#![tactic(auto)]
+
+mod fault;
+mod look;
+mod steps;
