@@ -1,5 +1,5 @@
 -- What is in the grammar is read, where what follows doesn't go on with it.
-use Rattle.std.proofs.Common.{◌≡◌, ℕ, ℤ, pos, zero, suc, ◌+◌, ◌<◌, ◌≤◌, List, [], ◌∷◌, length, Option, Some, None, Bool, true, false, cond, refl, sym, ap, ◌∙◌, inl, inr, ◌⊎◌, arith}
+use Rattle.std.proofs.Common.{◌≡◌, ℕ, ℤ, pos, zero, suc, ◌<◌, ◌≤◌, List, [], ◌∷◌, length, Option, Some, None, Bool, true, false, cond, refl, ap, ◌∙◌, arith}
 use Rattle.std.specs.Prelude.{nat_le}
 use Rattle.std.specs.Option.{option_map}
 use Rattle.std.proofs.lemmas.Bool.Decides.{nat_tests}
@@ -17,12 +17,12 @@ use Rattle.query_meaning.specs.CastTo.{CastTo}
 use Rattle.query_meaning.specs.Func as func
 use Rattle.query_meaning.specs.Part.{Part}
 use Rattle.query_meaning.specs.AggName as aggs
-use Rattle.query_meaning.specs.Tree.{Step, name, at, Ex, Exs, Arms, lit, path, neg, no, bin, is, member, between, matching, choice, cast, call, trunc, extract, shift, agg_of_rows, agg, exs, no_arms, arm}
+use Rattle.query_meaning.specs.Tree.{Step, name, at, Ex, Arms, lit, path, neg, no, bin, is, member, between, matching, choice, cast, call, agg_of_rows, exs}
 use Rattle.query_meaning.specs.Words.{function_word, part_word, cast_word}
 use Rattle.query_meaning.specs.Tokens.{Tok, Toks, mark, word, quoted, string, moment, num, no_token}
-use Rattle.query_meaning.specs.Grammar.{Head, function, aggregate, truncation, extraction, addition, Joins, by_or, by_and, by_plus, by_minus, by_star, by_slash, by_percent, Compares, by_equal, by_unequal, by_less, by_at_most, by_greater, by_at_least, Asks, for_null, for_missing, for_true, for_false, Likens, by_like, by_ilike, Denotes, is_null, is_missing, is_true, is_false, Calls, by_coalesce, by_null_if, by_char_length, by_unix_epoch, by_unix_micro, by_count, by_sum, by_min, by_max, by_avg, by_earliest, by_latest, by_bool_and, by_bool_or, Matches, by_starts_with, by_ends_with, by_contains, Opens, nothing, cut_to, part_from, added, Makes, coalesce, null_if, char_length, unix_epoch, unix_micro, aggregated, truncated, extracted, shifted, Name, bare, in_quotes, Steps, no_steps, dotted, indexed, Chain, chain, More, stop, more, Operand, of_or, of_and, of_sum, of_term, Neg, plain, negated, Pred, alone, compared, asked, asked_not, tested, tested_not, Test, among, from_to, likened, Minus, unsigned, minus, Prim, a_number, a_string, a_moment, a_literal, a_path, in_parens, a_case, a_cast, a_call, a_match, a_count, Whens, last_when, more_whens, Else, without, otherwise, Exprs, last_expr, more_exprs, Expr}
-use Rattle.query_meaning.specs.Reading.{◌>>=◌, match_option, is_mark, after, said, Reader, or_op, and_op, sum_op, term_op, op_of, compare_of, what_of, how_of, literal_of, operator_at, compare_at, what_at, more_by, chain_by, prefixed, name_at, word_at, string_at, num_at, index_at, field_at, step_at, steps_at, is_at, like_at, list_by, among_by, range_by, test_by, is_test, tested_by, pred_by, whens_by, else_by, case_by, parens_by, cast_end, cast_by, match_of, part_at, head_at, made, match_end, match_by, args_by, rows_at, call_by, marked_by, word_by, prim_by, minus_by, term_by, sum_by, neg_by, and_by, or_by, operand_by, level_by, expr_at}
-use Rattle.query_meaning.proofs.Steps.{some_is, if_then, is_mark-true, after-some}
+use Rattle.query_meaning.specs.Grammar.{Head, function, Joins, by_or, by_and, by_plus, by_minus, by_star, by_slash, by_percent, Compares, by_equal, by_unequal, by_less, by_at_most, by_greater, by_at_least, Asks, for_null, for_missing, for_true, for_false, Likens, by_like, by_ilike, Denotes, is_null, is_missing, is_true, is_false, Calls, by_coalesce, by_null_if, by_char_length, by_unix_epoch, by_unix_micro, by_count, by_sum, by_min, by_max, by_avg, by_earliest, by_latest, by_bool_and, by_bool_or, Matches, by_starts_with, by_ends_with, by_contains, Opens, nothing, cut_to, part_from, added, Makes, coalesce, null_if, char_length, unix_epoch, unix_micro, aggregated, truncated, extracted, shifted, Name, bare, in_quotes, Steps, no_steps, dotted, indexed, Chain, chain, More, stop, more, Operand, of_or, of_and, of_sum, of_term, Neg, plain, negated, Pred, alone, compared, asked, asked_not, tested, tested_not, Test, among, from_to, likened, Minus, unsigned, minus, Prim, a_number, a_string, a_moment, a_literal, a_path, in_parens, a_case, a_cast, a_call, a_match, a_count, Whens, last_when, more_whens, Else, without, otherwise, Exprs, last_expr, more_exprs, Expr}
+use Rattle.query_meaning.specs.Reading.{is_mark, after, said, Reader, or_op, and_op, sum_op, term_op, compare_of, operator_at, compare_at, what_at, more_by, prefixed, name_at, word_at, string_at, num_at, index_at, field_at, step_at, steps_at, is_at, like_at, list_by, among_by, range_by, test_by, is_test, tested_by, pred_by, whens_by, else_by, case_by, parens_by, cast_end, cast_by, match_of, part_at, head_at, made, match_end, match_by, args_by, rows_at, call_by, marked_by, word_by, prim_by, minus_by, sum_by, neg_by, operand_by, level_by, expr_at}
+use Rattle.query_meaning.proofs.Steps.{is_mark-true, after-some}
 
 -- how tightly a mark binds that goes on with a form; 0 goes on with none
 abbrev pub binds : Mark → ℕ

@@ -1,14 +1,12 @@
 -- A query of the grammar is read, and the tokens have no other.
-use Rattle.std.proofs.Common.{◌≡◌, ℕ, zero, suc, ◌+◌, ◌<◌, ◌≤◌, List, [], ◌∷◌, length, Option, Some, None, Bool, true, false, cond, refl, sym, ap, ◌∙◌, arith}
-use Rattle.std.specs.Option.{option_map}
+use Rattle.std.proofs.Common.{◌≡◌, ℕ, zero, suc, ◌<◌, ◌≤◌, List, [], ◌∷◌, length, Option, Some, None, Bool, true, false, cond, refl, sym, ap, ◌∙◌, arith}
 use Rattle.query_meaning.specs.declared.Mark.{Mark}
 use Rattle.query_meaning.specs.declared.Mark.TheVariants as m
-use Rattle.query_meaning.specs.Tree.{Ex, Outs, star, named, Query}
+use Rattle.query_meaning.specs.Tree.{Ex, Outs, Query}
 use Rattle.query_meaning.specs.Tokens.{Tok, Toks, mark, word, quoted, string, moment, num, no_token}
-use Rattle.query_meaning.specs.Grammar.{Name, bare, in_quotes, Expr, Exprs, Alias, no_alias, alias, as_alias, Items, last_item, more_items, Outputs, all, listed, Direction, rising, ascending, descending, Keys, last_key, more_keys, Filter, no_filter, filter, Groups, no_groups, groups, Order, no_order, order, Count, no_count, count, skip_of, Written, written, IsQuery}
-use Rattle.query_meaning.specs.RowName.{row_name, without_row}
-use Rattle.query_meaning.specs.Reading.{◌>>=◌, match_option, is_mark, after, Reader, name_at, num_at, list_by, pred_by, prim_by, marked_by, expr_at, alias_at, item_by, outputs_by, direction_at, key_by, filter_by, groups_by, order_by, count_at, whole, window_at, raw_in, raw_of, query_of}
-use Rattle.query_meaning.proofs.Steps.{some_is, is_mark-true, after-some}
+use Rattle.query_meaning.specs.Grammar.{Name, bare, in_quotes, Expr, Alias, no_alias, alias, as_alias, Items, last_item, more_items, Outputs, all, listed, Direction, rising, ascending, descending, Keys, last_key, more_keys, Filter, no_filter, filter, Groups, no_groups, groups, Order, no_order, order, Count, no_count, count, skip_of, Written, written, IsQuery}
+use Rattle.query_meaning.specs.Reading.{is_mark, after, name_at, num_at, list_by, expr_at, alias_at, item_by, outputs_by, direction_at, key_by, filter_by, groups_by, order_by, count_at, window_at, raw_in, raw_of, query_of}
+use Rattle.query_meaning.proofs.Steps.{some_is, is_mark-true}
 use Rattle.query_meaning.proofs.Full.{strength, chain_less, exprs_less, expr_full, list_full, no_star, starry, name_at-name}
 
 -- which part of a query a mark begins, in their order; 0 begins none

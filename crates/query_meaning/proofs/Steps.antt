@@ -1,13 +1,13 @@
 -- What the steps of reading say when they answer.
-use Rattle.std.proofs.Common.{◌≡◌, ℕ, suc, List, [], ◌∷◌, Option, Some, None, Bool, true, false, cond, refl, sym, ap, ◌∙◌}
+use Rattle.std.proofs.Common.{◌≡◌, ℕ, suc, List, [], ◌∷◌, Option, Some, None, Bool, true, false, cond, refl, ap}
 use Rattle.std.specs.Option.{option_map}
-use denote.Enum.Bare.{sameb, same_true}
+use denote.Enum.Bare.{same_true}
 use Rattle.query_meaning.specs.contracts.Mark as mark_type
 use Rattle.query_meaning.specs.declared.Mark.{Mark}
 use Rattle.query_meaning.specs.Tree.{Ex}
 use Rattle.query_meaning.specs.Tokens.{Tok, Toks, mark, word, quoted, string, moment, num, no_token}
 use Rattle.query_meaning.specs.Grammar.{Name, bare, in_quotes}
-use Rattle.query_meaning.specs.Reading.{◌>>=◌, match_option, is_mark, after, said, Reader, prefixed, count_of, behind, times, name_of, name_at, word_of, word_at, string_of, string_at, num_of, num_at}
+use Rattle.query_meaning.specs.Reading.{◌>>=◌, match_option, is_mark, after, said, Reader, prefixed, count_of, behind, times, name_at, word_at, string_at, num_at}
 
 pub some_is : {A : Type 0} (x y : A) → Some x ≡ Some y → x ≡ y
 some_is x y e = cc

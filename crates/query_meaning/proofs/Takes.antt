@@ -1,11 +1,8 @@
 -- What is read is in the grammar.
-use Rattle.std.proofs.Common.{◌≡◌, ℕ, zero, suc, ◌≤◌, pos, List, [], ◌∷◌, length, Option, Some, None, Bool, true, false, cond, refl, sym, ap, ◌∙◌, inl, inr, ◌⊎◌, subst, arith}
-use Rattle.std.specs.Prelude.{nat_le, codes}
-use Rattle.std.specs.Str.{str_eq_ignore_ascii_case}
-use Rattle.std.specs.Option.{option_map}
+use Rattle.std.proofs.Common.{◌≡◌, ℕ, zero, suc, ◌≤◌, List, [], ◌∷◌, Some, Bool, true, refl, ap, ◌∙◌, arith}
+use Rattle.std.specs.Prelude.{nat_le}
 use Rattle.std.proofs.lemmas.Bool.Decides.{nat_tests}
 use Rattle.value_meaning.specs.Val.{Val}
-use Rattle.value_meaning.specs.Val as val
 use Rattle.query_meaning.specs.declared.Mark.{Mark}
 use Rattle.query_meaning.specs.declared.Mark.TheVariants as m
 use Rattle.query_meaning.specs.declared.FunctionWord.{FunctionWord}
@@ -13,21 +10,18 @@ use Rattle.query_meaning.specs.declared.FunctionWord.TheVariants as f
 use Rattle.query_meaning.specs.declared.Level.{Level}
 use Rattle.query_meaning.specs.declared.Level.TheVariants as lv
 use Rattle.query_meaning.specs.BinOp.{BinOp}
-use Rattle.query_meaning.specs.BinOp as op
 use Rattle.query_meaning.specs.IsWhat.{IsWhat}
 use Rattle.query_meaning.specs.How.{How}
-use Rattle.query_meaning.specs.CastTo.{CastTo}
-use Rattle.query_meaning.specs.CastTo as to
 use Rattle.query_meaning.specs.Func.{Func}
 use Rattle.query_meaning.specs.Func as func
 use Rattle.query_meaning.specs.Part.{Part, is_cut_to, is_extracted, is_added}
 use Rattle.query_meaning.specs.AggName as aggs
-use Rattle.query_meaning.specs.Tree.{Step, name, at, Ex, Exs, Arms, lit, path, neg, no, bin, is, member, between, matching, choice, cast, call, trunc, extract, shift, agg_of_rows, agg, exs, no_arms, arm, Outs, star, named, Query}
+use Rattle.query_meaning.specs.Tree.{Step, name, at, Ex, neg, no, bin, matching, agg_of_rows}
 use Rattle.query_meaning.specs.Words.{function_word, part_word, cast_word}
 use Rattle.query_meaning.specs.Tokens.{Tok, Toks, mark, word, quoted, string, moment, num, no_token}
 use Rattle.query_meaning.specs.Grammar as g
 use Rattle.query_meaning.specs.Grammar.{Head, function, aggregate, truncation, extraction, addition, skip_of}
-use Rattle.query_meaning.specs.Reading.{◌>>=◌, match_option, is_mark, after, said, Reader, or_op, and_op, sum_op, term_op, op_of, compare_of, what_of, how_of, literal_of, operator_at, compare_at, what_at, more_by, chain_by, prefixed, name_at, word_at, string_at, num_at, index_at, field_at, step_at, steps_at, is_at, like_at, list_by, among_by, range_by, test_by, is_test, tested_by, pred_by, whens_by, else_by, case_by, parens_by, cast_end, cast_by, match_of, part_at, head_at, made_one, made_two, made_many, made, match_end, match_by, args_by, rows_at, call_by, marked_by, word_by, prim_by, minus_by, term_by, sum_by, neg_by, and_by, or_by, expr_at, alias_at, item_by, outputs_by, direction_at, key_by, filter_by, groups_by, order_by, count_at, whole, window_at, raw_in, raw_of, query_of}
+use Rattle.query_meaning.specs.Reading.{is_mark, after, said, Reader, or_op, and_op, sum_op, term_op, op_of, compare_of, what_of, how_of, literal_of, operator_at, compare_at, what_at, more_by, chain_by, prefixed, name_at, word_at, string_at, num_at, index_at, field_at, step_at, steps_at, is_at, like_at, list_by, among_by, range_by, test_by, is_test, tested_by, pred_by, whens_by, else_by, case_by, parens_by, cast_end, cast_by, match_of, part_at, head_at, made_one, made_two, made_many, made, match_end, match_by, args_by, rows_at, call_by, marked_by, word_by, prim_by, minus_by, term_by, sum_by, neg_by, and_by, or_by, expr_at}
 use Rattle.query_meaning.proofs.Steps.{some_is, bind_then, map_then, match_then, if_then, is_mark-true, after-some, said-some, name_at-some, word_at-some, string_at-some, num_at-some}
 
 -- f reads forms of R alone
@@ -148,7 +142,7 @@ index-some ts x e =
     bind_then (num_at ts) _ x e (λ i read h.
     if_then (nat_le i.0 4_294_967_295) _ _ _ h
     (λ small h2. map_then _ (after m.CloseIndex i.1) x h2 (λ r close h3.
-      rw (← h3) (i.0, le_of i.0 4_294_967_295 small, num_at-some ts i read ∙ ap (λ (s : Toks). num i.0 ∷ s) (after-some m.CloseIndex i.1 r close), refl)))
+    rw (← h3) (i.0, le_of i.0 4_294_967_295 small, num_at-some ts i read ∙ ap (λ (s : Toks). num i.0 ∷ s) (after-some m.CloseIndex i.1 r close), refl)))
     (λ large h2. absurd cc))
 
 field-some : (ts : Toks) (x : Step × Toks) → field_at ts ≡ Some x → (k : Tok) × (n : List ℕ) × g.Name k n × (ts ≡ k ∷ x.1) × (name n ≡ x.0)
@@ -173,10 +167,10 @@ unfolding step_at
 step-takes ts x e =
     match_then (after m.Dot ts) _ _ _ e
     (λ none h. match_then (after m.OpenIndex ts) _ _ _ h (λ none2 h2. absurd cc) (λ r open_ h2.
-      map_then Some (index_at r) (Some x) h2 (λ y read h3.
-      index_step ts r x (after-some m.OpenIndex ts r open_) (read ∙ ap Some (some_is _ _ h3)))))
+    map_then Some (index_at r) (Some x) h2 (λ y read h3.
+    index_step ts r x (after-some m.OpenIndex ts r open_) (read ∙ ap Some (some_is _ _ h3)))))
     (λ r dot_ h. map_then Some (field_at r) (Some x) h (λ y read h2.
-      field_step ts r x (after-some m.Dot ts r dot_) (read ∙ ap Some (some_is _ _ h2))))
+    field_step ts r x (after-some m.Dot ts r dot_) (read ∙ ap Some (some_is _ _ h2))))
 
 steps-take : (n : ℕ) → Takes g.Steps (steps_at n)
 steps-take zero ts x e = absurd cc
@@ -223,7 +217,7 @@ part-some takes k ts x e =
     bind_then (part_word w.0) _ x h (λ p known h2.
     if_then (takes p) _ _ _ h2
     (λ b h3. map_then _ (after k w.1) x h3 (λ r next h4.
-      rw (← h4) (w.0, known, b, word_at-some ts w read ∙ ap (λ (s : Toks). word w.0 ∷ s) (after-some k w.1 r next))))
+    rw (← h4) (w.0, known, b, word_at-some ts w read ∙ ap (λ (s : Toks). word w.0 ∷ s) (after-some k w.1 r next))))
     (λ b h3. absurd cc)))
 
 plain_takes : {w : FunctionWord} {h : Head} (ts : Toks) (x : Head × Toks) → g.Calls w h → Some (h, ts) ≡ Some x → g.Opens w ts x.0 x.1
@@ -331,10 +325,10 @@ module _ (f : Reader Ex) (t : Takes g.Expr f) where
     tested-takes ts y first x e =
         match_then (compare_at y.1) _ _ _ e
         (λ none h. match_then (after m.Is y.1) _ _ _ h
-          (λ none2 h2. match_then (after m.Not y.1) _ _ _ h2
-            (λ none3 h3. if_then (is_test y.1) _ _ _ h3 (λ b h4. g.tested first (test-takes y.0 y.1 x h4)) (λ b h4. rw (← some_is _ _ h4) (g.alone first)))
-            (λ r not_ h3. map_then _ (test_by s f n y.0 r) x h3 (λ z read h4. rw (← h4) (g.tested_not (rw (after-some m.Not y.1 r not_) at first) (test-takes y.0 r z read)))))
-          (λ r is_ h2. is-takes ts r y.0 (rw (after-some m.Is y.1 r is_) at first) x h2))
+        (λ none2 h2. match_then (after m.Not y.1) _ _ _ h2
+        (λ none3 h3. if_then (is_test y.1) _ _ _ h3 (λ b h4. g.tested first (test-takes y.0 y.1 x h4)) (λ b h4. rw (← some_is _ _ h4) (g.alone first)))
+        (λ r not_ h3. map_then _ (test_by s f n y.0 r) x h3 (λ z read h4. rw (← h4) (g.tested_not (rw (after-some m.Not y.1 r not_) at first) (test-takes y.0 r z read)))))
+        (λ r is_ h2. is-takes ts r y.0 (rw (after-some m.Is y.1 r is_) at first) x h2))
         (λ o is_ h. map_then _ (s o.1) x h (λ b read h2. let c = compare-some y.1 o is_ in rw (← h2) (g.compared c.1 (rw c.2 at first) (ts_ o.1 b read))))
 
     pred-takes : Takes g.Pred (pred_by s f n)
@@ -361,7 +355,7 @@ module _ (f : Reader Ex) (t : Takes g.Expr f) where
       match_then (after m.Else ts) _ _ _ e
       (λ none h. map_then _ (after m.End ts) x h (λ r end h2. rw (after-some m.End ts r end, ← h2) g.without))
       (λ r else h. bind_then (f r) _ x h (λ a read h2. map_then _ (after m.End a.1) x h2 (λ q end h3.
-        rw (after-some m.Else ts r else, ← h3) (g.otherwise (rw (after-some m.End a.1 q end) at (t r a read))))))
+      rw (after-some m.Else ts r else, ← h3) (g.otherwise (rw (after-some m.End a.1 q end) at (t r a read))))))
 
   case-takes : (n : ℕ) (ts : Toks) (x : Ex × Toks) → case_by f n ts ≡ Some x → g.Prim (mark m.Case ∷ ts) x.0 x.1
   unfolding case_by
@@ -431,8 +425,8 @@ module _ (f : Reader Ex) (t : Takes g.Expr f) where
       match_then (rows_at fw ts) _ _ _ e
       (λ none h. match_then (match_of fw) _ _ _ h (λ none2 h2. args-take n w fw known ts x h2) (λ by is_ h2. match-takes w fw by known (matches_of fw by is_) ts x h2))
       (λ r star_ h. map_then _ (after m.Close r) x h (λ u close h2.
-        let s = rows-some fw ts r star_ in
-        rw (s.1, after-some m.Close r u close, ← h2) (rows_take w fw known s.0 u)))
+      let s = rows-some fw ts r star_ in
+      rw (s.1, after-some m.Close r u close, ← h2) (rows_take w fw known s.0 u)))
 
   word-takes : (n : ℕ) (w : List ℕ) (ts : Toks) (x : Ex × Toks) → word_by f n w ts ≡ Some x → g.Prim (word w ∷ ts) x.0 x.1
   unfolding word_by

@@ -1,15 +1,13 @@
 -- What is read as a query is one.
-use Rattle.std.proofs.Common.{◌≡◌, ℕ, zero, suc, List, [], ◌∷◌, length, Option, Some, None, Bool, true, false, cond, refl, sym, ap, ◌∙◌}
-use Rattle.std.specs.Option.{option_map}
+use Rattle.std.proofs.Common.{◌≡◌, ℕ, zero, suc, List, [], ◌∷◌, length, Option, Some, None, Bool, true, false, refl, sym}
 use Rattle.query_meaning.specs.declared.Mark.{Mark}
 use Rattle.query_meaning.specs.declared.Mark.TheVariants as m
-use Rattle.query_meaning.specs.Tree.{Ex, Outs, star, named, Query}
-use Rattle.query_meaning.specs.Tokens.{Tok, Toks, mark, num}
+use Rattle.query_meaning.specs.Tree.{Ex, Query}
+use Rattle.query_meaning.specs.Tokens.{Toks}
 use Rattle.query_meaning.specs.Grammar as g
 use Rattle.query_meaning.specs.Grammar.{skip_of}
-use Rattle.query_meaning.specs.RowName.{row_name, without_row}
-use Rattle.query_meaning.specs.Reading.{◌>>=◌, match_option, after, Reader, name_at, num_at, list_by, expr_at, alias_at, item_by, outputs_by, direction_at, key_by, filter_by, groups_by, order_by, count_at, whole, window_at, raw_in, raw_of, query_of}
-use Rattle.query_meaning.proofs.Steps.{some_is, bind_then, map_then, match_then, if_then, after-some, name_at-some, num_at-some}
+use Rattle.query_meaning.specs.Reading.{match_option, after, Reader, name_at, num_at, list_by, expr_at, alias_at, item_by, outputs_by, direction_at, key_by, filter_by, groups_by, order_by, count_at, whole, window_at, raw_in, raw_of, query_of}
+use Rattle.query_meaning.proofs.Steps.{some_is, bind_then, map_then, match_then, after-some, name_at-some, num_at-some}
 use Rattle.query_meaning.proofs.Takes.{Takes, list-takes, expr-takes}
 
 -- what may follow FROM and an expression: a name, or none
@@ -23,8 +21,8 @@ alias-takes ts x e =
     match_then (after m.As ts) _ _ _ e
     (λ none h. rw (← some_is _ _ h) (bare_alias ts (name_at ts) refl))
     (λ r as_ h. map_then _ (name_at r) x h (λ n read h2.
-      let s = name_at-some r n read in
-      rw (after-some m.As ts r as_, s.2, ← h2) (g.as_alias s.1)))
+    let s = name_at-some r n read in
+    rw (after-some m.As ts r as_, s.2, ← h2) (g.as_alias s.1)))
 
 abbrev rest_of : Toks → Option Toks → Bool × Toks
 rest_of ts o = match_option o (false, ts) (λ r. (false, r))
@@ -81,7 +79,7 @@ module _ (f : Reader Ex) (t : Takes g.Expr f) where
       match_then (after m.Group ts) _ _ _ e
       (λ none h. rw (← some_is _ _ h) g.no_groups)
       (λ r group h. bind_then (after m.By r) _ x h (λ q by h2.
-        rw (after-some m.Group ts r group, after-some m.By r q by) (g.groups (list-takes f t n q x h2))))
+      rw (after-some m.Group ts r group, after-some m.By r q by) (g.groups (list-takes f t n q x h2))))
 
   key-then : {P : Type 0} (ts : Toks) (x : (Ex × Bool) × Toks) → key_by f ts ≡ Some x → ((u : Toks) → g.Expr ts x.0.0 u → g.Direction u x.0.1 x.1 → P) → P
   unfolding key_by
@@ -103,7 +101,7 @@ module _ (f : Reader Ex) (t : Takes g.Expr f) where
       match_then (after m.Order ts) _ _ _ e
       (λ none h. rw (← some_is _ _ h) g.no_order)
       (λ r order h. bind_then (after m.By r) _ x h (λ q by h2.
-        rw (after-some m.Order ts r order, after-some m.By r q by) (g.order (keys-take n q x h2))))
+      rw (after-some m.Order ts r order, after-some m.By r q by) (g.order (keys-take n q x h2))))
 
 count-takes : (k : Mark) → Takes (g.Count k) (count_at k)
 unfolding count_at

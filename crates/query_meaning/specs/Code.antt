@@ -1,5 +1,5 @@
 -- The code of trees, by which a proof tells them apart.
-use Rattle.std.specs.Prelude.{◌≡◌, ℕ, refl, List, [], ◌∷◌, slice_index_or}
+use Rattle.std.specs.Prelude.{◌≡◌, ℕ, refl, [], ◌∷◌, slice_index_or}
 use Rattle.std.proofs.Common.{ap, sym, ◌∙◌, arith}
 use base.Stored.{Gv, gnil, gnum, gcons, Coded, coded_ℕ, coded_list}
 use Rattle.value_meaning.specs.Code.{coded_val}

@@ -21,7 +21,7 @@ use Rattle.query_meaning.specs.Func as func
 use Rattle.query_meaning.specs.Part.{Part, is_cut_to, is_extracted, is_added}
 use Rattle.query_meaning.specs.AggName.{AggName}
 use Rattle.query_meaning.specs.AggName as aggs
-use Rattle.query_meaning.specs.Tree.{Step, name, at, Ex, Exs, Arms, lit, path, neg, no, bin, is, member, between, matching, choice, cast, call, trunc, extract, shift, agg_of_rows, agg, exs, no_arms, arm, Outs, star, named, Query}
+use Rattle.query_meaning.specs.Tree.{Step, name, at, Ex, Arms, lit, path, neg, no, bin, is, member, between, matching, choice, cast, call, trunc, extract, shift, agg_of_rows, agg, exs, no_arms, arm, Outs, star, named, Query}
 use Rattle.query_meaning.specs.Words.{function_word, part_word, cast_word}
 use Rattle.query_meaning.specs.Tokens.{Tok, Toks, mark, word, quoted, string, moment, num}
 use Rattle.query_meaning.specs.RowName.{row_name, without_row}

@@ -21,7 +21,7 @@ use Rattle.query_meaning.specs.Func.{Func}
 use Rattle.query_meaning.specs.Func as func
 use Rattle.query_meaning.specs.Part.{Part, is_cut_to, is_extracted, is_added}
 use Rattle.query_meaning.specs.AggName as aggs
-use Rattle.query_meaning.specs.Tree.{Step, name, at, Ex, Exs, Arms, lit, path, neg, no, bin, is, member, between, matching, choice, cast, call, trunc, extract, shift, agg_of_rows, agg, exs, no_arms, arm, Outs, star, named, Query}
+use Rattle.query_meaning.specs.Tree.{Step, name, at, Ex, Arms, lit, path, neg, no, bin, is, member, between, matching, choice, cast, call, trunc, extract, shift, agg_of_rows, agg, exs, no_arms, arm, Outs, star, named, Query}
 use Rattle.query_meaning.specs.Words.{function_word, part_word, cast_word}
 use Rattle.query_meaning.specs.Tokens.{Tok, Toks, mark, word, quoted, string, moment, num, no_token}
 use Rattle.query_meaning.specs.Grammar.{Head, function, aggregate, truncation, extraction, addition, skip_of}
@@ -287,10 +287,10 @@ unfoldable pub tested_by : Reader Ex → Reader Ex → ℕ → Ex → Reader Ex
 tested_by s f n e ts =
     match_option (compare_at ts)
     (match_option (after m.Is ts)
-     (match_option (after m.Not ts)
-      (if is_test ts then test_by s f n e ts else Some (e, ts))
-      (λ r. option_map (λ x. (no x.0, x.1)) (test_by s f n e r)))
-     (is_at e))
+    (match_option (after m.Not ts)
+    (if is_test ts then test_by s f n e ts else Some (e, ts))
+    (λ r. option_map (λ x. (no x.0, x.1)) (test_by s f n e r)))
+    (is_at e))
     (λ x. option_map (λ y. (bin x.0 e y.0, y.1)) (s x.1))
 
 unfoldable pub pred_by : Reader Ex → Reader Ex → ℕ → Reader Ex

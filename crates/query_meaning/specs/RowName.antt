@@ -1,5 +1,5 @@
 -- The row's name, which a path that goes on with a name may begin with and loses.
-use Rattle.std.specs.Prelude.{ℕ, List, [], ◌∷◌, map, Option, Some, None, unwrap_or, Bool, if◌then◌else◌}
+use Rattle.std.specs.Prelude.{ℕ, List, [], ◌∷◌, map, unwrap_or, if◌then◌else◌}
 use Rattle.std.specs.Option.{option_map}
 use Rattle.std.specs.Str.{bytes_eq}
 use Rattle.query_meaning.specs.Tree.{Step, name, at, Ex, Exs, Arms, lit, path, neg, no, bin, is, member, between, matching, choice, cast, call, trunc, extract, shift, agg_of_rows, agg, no_exs, ex, no_arms, arm, Outs, star, named, Query}
@@ -60,5 +60,5 @@ without_row row q =
       having = option_map (short row) q.having;
       order = map (λ k. (short row k.0, k.1)) q.order;
       take = q.take;
-      skip = q.skip
+      skip = q.skip;
     }

@@ -1,7 +1,7 @@
 -- Steps of the lexer.
-use Rattle.std.proofs.Common.{◌≡◌, ℕ, zero, suc, ◌+◌, ◌-◌, ◌<◌, ◌≤◌, List, [], ◌∷◌, ◌++◌, length, get_or, drop, drop-cons, map, Bool, true, false, cond, refl, sym, ap, ◌∙◌, arith, add-one, append_assoc, Result, Ok, Err}
+use Rattle.std.proofs.Common.{◌≡◌, ℕ, zero, suc, ◌+◌, ◌-◌, ◌<◌, ◌≤◌, List, [], ◌∷◌, ◌++◌, length, get_or, drop, drop-cons, map, false, refl, sym, ap, ◌∙◌, arith, add-one, append_assoc, Result, Ok, Err}
 use Rattle.std.proofs.lemmas.List.{map-append, drop-drop}
-use Rattle.query_meaning.specs.Lexing.{Span, Cut, is_space, cut_at, cut_then, with_span, spans_from, spans_of}
+use Rattle.query_meaning.specs.Lexing.{Span, Cut, is_space, cut_at, with_span, spans_from, spans_of}
 use Rattle.sql_tree.specs.declared.token.Token.{Token}
 use Rattle.sql_tree.specs.Lexes.{span_view}
 use Rattle.sql_tree.specs.Cuts.{IsCutOf}

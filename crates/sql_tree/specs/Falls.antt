@@ -1,5 +1,5 @@
 -- Each tree within is smaller.
-use Rattle.std.specs.Prelude.{◌≤◌, suc, max, List, [], ◌∷◌, map, Option, Some, None}
+use Rattle.std.specs.Prelude.{◌≤◌, max, List, [], ◌∷◌, map, Some, None}
 use Rattle.std.proofs.Common.{arith}
 use denote.Param.Weighed.{most}
 use Rattle.query_meaning.specs.Tree.{size, arms_size, arms, exs_size, exs}

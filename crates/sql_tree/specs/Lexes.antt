@@ -2,7 +2,6 @@
 use Rattle.std.specs.Prelude.{◌≡◌, ℕ, List, map, Result, Ok, Err}
 use Rattle.query_meaning.specs.Lexing.{Span}
 use Rattle.sql_tree.specs.declared.token.Token.{Token}
-use Rattle.sql_tree.specs.declared.token.Tokens.{Tokens}
 use Rattle.sql_tree.specs.declared.token.LexFault.{LexFault}
 use Rattle.sql_tree.specs.declared.token.LexFault.TheVariants as fault
 

@@ -21,5 +21,5 @@ query_view q =
       having = option_map view q.having;
       order = q.order;
       take = q.take;
-      skip = q.skip
+      skip = q.skip;
     }

@@ -1,5 +1,5 @@
 -- What the code's trees stand for.
-use Rattle.std.specs.Prelude.{ℕ, List, map, Option, Some, None}
+use Rattle.std.specs.Prelude.{List, map, Option, Some, None}
 use Rattle.snel_values.specs.declared.steps.Step.{Step as StepCode}
 use Rattle.snel_values.specs.declared.steps.Step.TheVariants as step
 use Rattle.snel_values.specs.View.{view as value_view}

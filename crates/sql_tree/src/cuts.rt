@@ -2,7 +2,7 @@ ghost use Rattle.std.specs.Prelude.{◌≡◌, ◌+◌, ◌≤◌, ◌<◌, leng
 ghost use Rattle.query_meaning.specs.Lexing as spec;
 ghost use Rattle.sql_tree.specs.Cuts.{IsCutOf};
 
-use crate::classes::{is_digit, run, starts_word, Class};
+use crate::classes::{Class, is_digit, run, starts_word};
 use crate::numbers::number_of;
 use crate::quotes::closing;
 use crate::signs::{one_sign, two_sign};
@@ -100,7 +100,11 @@ fn sign_cut(first: u8, rest: &[u8]) -> Result<(TokenKind, usize), usize>
             return Ok((TokenKind::Sign, 2));
         }
     }
-    if one_sign(first).is_some() { Ok((TokenKind::Sign, 1)) } else { Err(0) }
+    if one_sign(first).is_some() {
+        Ok((TokenKind::Sign, 1))
+    } else {
+        Err(0)
+    }
 }
 
 /// The kind and the length of the token at the front, or how far behind the front the fault is.

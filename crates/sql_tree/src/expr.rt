@@ -15,7 +15,10 @@ pub enum Expr {
     /// A literal.
     Lit(Value),
     /// A path from the row of this number, which is 0.
-    Path { row: u8, steps: Steps },
+    Path {
+        row: u8,
+        steps: Steps,
+    },
     /// `-of`
     Neg(Operand),
     /// `NOT of`
@@ -27,9 +30,15 @@ pub enum Expr {
         right: Operand,
     },
     /// `of IS what`
-    Is { what: IsWhat, of: Operand },
+    Is {
+        what: IsWhat,
+        of: Operand,
+    },
     /// `of IN (list)`
-    In { of: Operand, list: Exprs },
+    In {
+        of: Operand,
+        list: Exprs,
+    },
     /// `of BETWEEN low AND high`
     Between {
         of: Operand,
@@ -37,17 +46,36 @@ pub enum Expr {
         high: Operand,
     },
     /// `of LIKE text`, `of ILIKE text`, `STARTS_WITH(of, text)`, `ENDS_WITH(of, text)` or `CONTAINS(of, text)`
-    Match { how: How, of: Operand, text: Text },
+    Match {
+        how: How,
+        of: Operand,
+        text: Text,
+    },
     /// `CASE WHEN .. THEN .. ELSE other END`
-    Case { arms: Arms, other: Operand },
+    Case {
+        arms: Arms,
+        other: Operand,
+    },
     /// `CAST(of AS to)`
-    Cast { of: Operand, to: CastTo },
+    Cast {
+        of: Operand,
+        to: CastTo,
+    },
     /// A function of values.
-    Call { name: Func, args: Exprs },
+    Call {
+        name: Func,
+        args: Exprs,
+    },
     /// `DATE_TRUNC(part, of)`
-    Trunc { part: Part, of: Operand },
+    Trunc {
+        part: Part,
+        of: Operand,
+    },
     /// `EXTRACT(part FROM of)`
-    Extract { part: Part, of: Operand },
+    Extract {
+        part: Part,
+        of: Operand,
+    },
     /// `DATE_ADD(part, count, of)`
     Shift {
         part: Part,
@@ -55,7 +83,10 @@ pub enum Expr {
         of: Operand,
     },
     /// An aggregate, without an operand where it is COUNT(*).
-    Agg { name: AggName, of: Option<Operand> },
+    Agg {
+        name: AggName,
+        of: Option<Operand>,
+    },
 }
 
 /// An expression within another, seen as its tree.

@@ -35,3 +35,52 @@ pub fn tokens(alloc: Global, text: &str) -> Result<Tokens, LexFault>
     }
     Ok(all)
 }
+
+#[cfg(test)]
+mod tests {
+    use super::*;
+    use query_meaning::TokenKind;
+
+    #[test]
+    fn takes_tokens(rt: HostRuntime) {
+        let text = "SELECT \"a\"\"b\", 'it''s' <>`2024-05-01T10:00:00Z` 17)";
+        let Ok(found) = tokens(rt.alloc(), text) else {
+            return
+        };
+        let wanted = [
+            (TokenKind::Word, 0, 6),
+            (TokenKind::Quoted, 7, 13),
+            (TokenKind::Sign, 13, 14),
+            (TokenKind::Str, 15, 22),
+            (TokenKind::Sign, 23, 25),
+            (TokenKind::Moment, 25, 47),
+            (TokenKind::Number, 48, 50),
+            (TokenKind::Sign, 50, 51),
+        ];
+        assert_eq!(rt; found.len(), wanted.len());
+        for (at, (kind, from, to)) in wanted.iter().copied().enumerate() {
+            assert_eq!(rt; found.get(at).copied(), Some(Token { kind, from, to }));
+        }
+    }
+
+    #[test]
+    fn names_faults(rt: HostRuntime) {
+        for (text, place) in [
+            ("SELECT a--b FROM t", 8),
+            ("SELECT 1.5 FROM logs", 8),
+            ("SELECT 9223372036854775808 FROM t", 7),
+            ("SELECT 12x FROM t", 9),
+            ("SELECT 'a''b", 10),
+            ("SELECT \"\" FROM t", 7),
+            ("SELECT `2024-05-01` FROM t", 7),
+            ("SELECT a ! b FROM t", 9),
+            ("SELECT \u{e9} FROM t", 7),
+        ] {
+            let Err(LexFault::BadToken(found)) = tokens(rt.alloc(), text) else {
+                assert!(rt; false);
+                return;
+            };
+            assert_eq!(rt; found, place);
+        }
+    }
+}

@@ -1,4 +1,4 @@
-ghost use Rattle.std.specs.Prelude.{◌≡◌, [], ◌∷◌, ◌++◌, length, slice_get, OnOk, OnErr};
+ghost use Rattle.std.specs.Prelude.{◌≡◌, [], ◌∷◌, ◌++◌, length, slice_get, OnOk, OnErr, IfSome, IfNone};
 ghost use Rattle.std.specs.Option.{option_map};
 ghost use Rattle.sql_tree.specs.View.{view};
 ghost use Rattle.sql_tree.specs.Parts.{item_view, key_view};
@@ -62,6 +62,14 @@ impl Exprs {
         Ok(())
     }
 
+    /// Takes the last expression off, if there is one.
+    pub fn pop(&mut self) -> Option<Expr>
+        ensures some { IfSome result (λ e. self.old ≡ self.new ++ view e ∷ []) }
+        ensures none { IfNone result (self.old ≡ []) }
+    {
+        self.all.pop()
+    }
+
     /// The expression at a place, counted from 0.
     pub fn get(&self, at: usize) -> Option<&Expr>
         ensures { option_map (λ e. view e.now) result ≡ slice_get self.now at }
@@ -86,7 +94,6 @@ pub struct OutItems {
 impl Model for OutItems {
     ghost use Rattle.std.specs.Prelude.{List, Option, ℕ, map};
     ghost use Rattle.query_meaning.specs.Tree.{Ex};
-
     ghost use Rattle.query_meaning.specs.Code.{coded_ex};
     ghost use Rattle.std.specs.Coded.{coded_list, coded×, coded_option, coded_ℕ};
 
@@ -149,7 +156,6 @@ pub struct OrderKeys {
 impl Model for OrderKeys {
     ghost use Rattle.std.specs.Prelude.{List, Bool, map};
     ghost use Rattle.query_meaning.specs.Tree.{Ex};
-
     ghost use Rattle.query_meaning.specs.Code.{coded_ex};
     ghost use Rattle.std.specs.Coded.{coded_list, coded×, coded_bool};
 

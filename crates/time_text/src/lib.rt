@@ -194,7 +194,16 @@ fn zone_at(bytes: &[u8]) -> Option<i64>
 /// The moment that a local clock shows which is so many minutes ahead of UTC, if the calendar has the date, the clock
 /// the time, and the moment is in range.
 #[tactic(auto, unfolding(time_meaning::specs::Texts::local_time, time_meaning::specs::Moments::is_real, time_meaning::specs::Moments::moment))]
-fn local_time(year: u32, month: u32, day: u32, hour: u32, minute: u32, second: u32, micros: u64, ahead: i64) -> Option<i64>
+fn local_time(
+    year: u32,
+    month: u32,
+    day: u32,
+    hour: u32,
+    minute: u32,
+    second: u32,
+    micros: u64,
+    ahead: i64,
+) -> Option<i64>
     requires micros_in { micros < 1_000_000 }
     requires low { neg_ℤ (pos 1439) ≤ℤ ahead }
     requires high { ahead ≤ℤ pos 1439 }
@@ -203,7 +212,9 @@ fn local_time(year: u32, month: u32, day: u32, hour: u32, minute: u32, second: u
     if year > 9999 || month > 12 || day > 31 || hour > 23 || minute > 59 || second > 59 {
         return None;
     }
-    let Ok(date) = Date::new(year as i16, month as i8, day as i8) else { return None };
+    let Ok(date) = Date::new(year as i16, month as i8, day as i8) else {
+        return None
+    };
     let seconds = (hour * 60 + minute) * 60 + second;
     let day = i64::from(date.to_unix_epoch_day());
     in_range(in_utc(at_clock(day, seconds, micros), ahead))
@@ -262,11 +273,17 @@ mod tests {
     fn reads_times(rt: HostRuntime) {
         for (text, want) in [
             ("1970-01-01T00:00:00Z", Some(0i64)),
-            ("2024-02-29 23:59:59.1234567+01:30", Some(1_709_245_799_123_456)),
+            (
+                "2024-02-29 23:59:59.1234567+01:30",
+                Some(1_709_245_799_123_456),
+            ),
             ("0000-12-31T23:59:59-00:01", Some(-62_135_596_741_000_000)),
             ("0001-01-01t00:00:00z", Some(-62_135_596_800_000_000)),
             ("0001-01-01T00:00:00+00:01", None),
-            ("9999-12-31T23:59:59.999999999Z", Some(253_402_300_799_999_999)),
+            (
+                "9999-12-31T23:59:59.999999999Z",
+                Some(253_402_300_799_999_999),
+            ),
             ("2023-02-29T00:00:00Z", None),
             ("2024-05-01T24:00:00Z", None),
             ("2024-05-01T10:00:00.Z", None),

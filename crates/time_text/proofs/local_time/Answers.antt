@@ -1,4 +1,4 @@
-use Rattle.std.proofs.Common.{◌≡◌, arith, to_z, of_z, to_z-of_z, pos, ◌+◌, ◌*◌, ◌+ℤ◌, ◌-ℤ◌, ◌*ℤ◌, refl, w64, w32, w16, w8, ◌∙◌, ap, ℤ}
+use Rattle.std.proofs.Common.{◌≡◌, arith, to_z, of_z, to_z-of_z, pos, ◌+◌, ◌*◌, ◌+ℤ◌, ◌-ℤ◌, ◌*ℤ◌, refl, w64, w32, w16, w8, ◌∙◌, ap}
 use Rattle.std.proofs.lemmas.Int.{to_z_pos}
 use Rattle.std.specs.Result.{IsOk}
 use Rattle.jiff_core.specs.Calendar.{IsDate, days_from_civil}
@@ -16,9 +16,9 @@ returns c =
     let date : IsDate (pos c.args.year) (pos c.args.month) (pos c.args.day) = date_is _ _ _ _ _ _ y m d (c.new.ensures.succeeds.0 ok) in
     let v = c.in-Ok.ensures.value in
     let day : c.to_unix_epoch_day.result ≡ days_from_civil (pos c.args.year) c.args.month c.args.day =
-        let mm : c.in-Ok.date.month ≡ c.args.month = omega (arith, signed_arith, v.1, m) in
-        let dd : c.in-Ok.date.day ≡ c.args.day = omega (arith, signed_arith, v.2, d) in
-        c.to_unix_epoch_day.ensures.value ∙ (rw (v.0, y, mm, dd) refl) in
+    let mm : c.in-Ok.date.month ≡ c.args.month = omega (arith, signed_arith, v.1, m) in
+    let dd : c.in-Ok.date.day ≡ c.args.day = omega (arith, signed_arith, v.2, d) in
+    c.to_unix_epoch_day.ensures.value ∙ (rw (v.0, y, mm, dd) refl) in
     let e = c.to_unix_epoch_day.ensures.bound in
     let f1 : c.from-day.result ≡ c.to_unix_epoch_day.result = c.from-day.ensures ∙ to_z-of_z {w = w32} (omega (arith, signed_arith)) in
     let r = c.requires in

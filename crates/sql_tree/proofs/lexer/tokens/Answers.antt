@@ -1,9 +1,7 @@
-use Rattle.std.proofs.Common.{◌≡◌, ◌+◌, ◌≤◌, ◌<◌, ◌-◌, ◌∙◌, length-drop, ap, refl, arith, length, drop, take, false, get_or, map, List, ◌∷◌, []}
+use Rattle.std.proofs.Common.{◌≡◌, ◌≤◌, ◌-◌, ◌∙◌, length-drop, refl, arith, length, drop, take, false, get_or}
 use Rattle.std.proofs.lemmas.Grind.{common_steps}
-use Rattle.query_meaning.specs.Lexing.{is_space, spans_from}
-use Rattle.sql_tree.specs.declared.token.Token.{Token}
-use Rattle.sql_tree.specs.Lexes.{span_view}
-use Rattle.sql_tree.proofs.SpanSteps.{at_start, token_step, behind}
+use Rattle.query_meaning.specs.Lexing.{is_space}
+use Rattle.sql_tree.proofs.SpanSteps.{at_start, token_step}
 use Rattle.sql_tree.proofs.lexer.tokens.Goals as goal
 
 pub places-init : goal.places-init

@@ -1,5 +1,4 @@
-use Rattle.std.proofs.Common.{◌≡◌, ◌≤◌, ◌+◌, ◌-◌, ◌*◌, length, drop, arith, get_or}
-use Rattle.query_meaning.specs.Lexing.{decimal_on}
+use Rattle.std.proofs.Common.{◌+◌, ◌-◌, ◌*◌, drop, arith, get_or}
 use Rattle.sql_tree.proofs.LexSteps.{decimal_at, decimal_grows, too_large, small_enough, past_end}
 use Rattle.sql_tree.proofs.numbers.number_of.Goals as goal
 

@@ -1,6 +1,0 @@
-//! The parser of queries.
-#![tactic(auto)]
-
-mod fault;
-mod look;
-mod steps;
