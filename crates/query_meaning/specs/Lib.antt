@@ -1,0 +1,16 @@
+pub mod BinOp
+pub mod IsWhat
+pub mod How
+pub mod CastTo
+pub mod Func
+pub mod Part
+pub mod AggName
+pub mod Tree
+pub mod Code
+pub mod Words
+pub mod Lexing
+pub mod Tokens
+pub mod RowName
+pub mod Grammar
+pub mod Reading
+pub mod Laws

@@ -1,0 +1,2 @@
+pub mod LexSteps
+pub mod SpanSteps

@@ -1,0 +1,2 @@
+pub mod ManyDigits
+pub mod Locals
