@@ -13,8 +13,9 @@ use crate::ask::is_built;
 use crate::load::{Stored, load};
 use crate::refusal::Refusal;
 use block_file::{Block, BlockFault, open_block};
-use json_out::row_line;
-use snel_device::{Failed, Files, Out};
+use json_out::append_row;
+use snel_device::{Files, Out};
+use snel_values::Bytes;
 use std::alloc::Global;
 
 /// Answers a query over a file: writes one line for each row, each by one put.
@@ -63,8 +64,10 @@ fn write_rows<O: Out>(alloc: Global, block: &Block<'_>, out: &mut O) -> Result<(
     ensures fault { HasCause (O.faults out.old) (O.faults out.new) (IsErrOf result Refusal.WriteFault) }
     ensures refused { IsWriteOrMemory result }
 {
+    let mut line = Bytes::new(alloc);
     for at in 0..block.rows() {
-        let Ok(line) = row_line(alloc, block.table(), &block.row(at)) else {
+        line.clear();
+        let Ok(()) = append_row(&mut line, block.table(), &block.row(at)) else {
             return Err(Refusal::OutOfMemory);
         };
         let Ok(()) = out.put(line.as_slice()) else {
