@@ -31,10 +31,10 @@ impl<'b> Model for Block<'b> {
 }
 
 impl<'b> Block<'b> {
-    ghost use Rattle.std.specs.Prelude.{◌≡◌, ◌<◌, ◌%◌, length, true, Some, slice_get, map, take, drop};
+    ghost use Rattle.std.specs.Prelude.{◌≡◌, ◌<◌, ◌≤◌, ◌-◌, ◌%◌, length, true, Some, slice_get, map, min, take, drop};
     ghost use Rattle.ion_cells.specs.Shown.{Fits, shown};
     ghost use Rattle.block_file.specs.Rows.{AreBlockCells};
-    ghost use Rattle.block_meaning.specs.Blocks.{is_struct};
+    ghost use Rattle.block_meaning.specs.Blocks.{is_struct, AreRows};
     ghost use Rattle.block_file.specs.Chunks.{AreCellsOf};
 
     /// The block of this table and these rows.
@@ -70,11 +70,21 @@ impl<'b> Block<'b> {
         self.rows[at as usize]
     }
 
+    /// Tells what holds of every block.
+    pub fn know(&self)
+        ensures structs { AreRows self.now.1 }
+        ensures some { 1 ≤ length self.now.1 }
+        ensures few { length self.now.1 ≤ 65_536 }
+    {
+        let _ = &self.rows;
+    }
+
     /// The rows from the place `first` on, at most sixteen of them.
     pub fn chunk(&self, first: u32) -> Chunk<'b>
         requires within { first < length self.now.1 }
         requires whole { first % 16 ≡ 0 }
-        ensures { AreCellsOf self.now.0 (take 16 (drop first self.now.1)) result }
+        ensures long { length result ≡ min 16 (length self.now.1 - first) }
+        ensures cells { AreCellsOf self.now.0 (take 16 (drop first self.now.1)) result }
     {
         let start = first as usize;
         let count = (self.rows.len() - start).min(16);
