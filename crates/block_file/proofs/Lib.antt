@@ -2,3 +2,4 @@ pub mod RowCells
 pub mod RowAt
 pub mod RowsRead
 pub mod Opened
+pub mod Lanes

@@ -1,13 +1,13 @@
 -- Rows of a block, read one after the other.
 use Rattle.std.proofs.Common.{◌≡◌, ◌≢◌, ℕ, suc, ◌+◌, ◌<◌, ◌≤◌, Bool, true, false, List, [], ◌∷◌, ◌++◌, length, map, drop, Option, Some, None, eqb, ltb, refl, sym, ap, subst, ◌∙◌, arith}
-use Rattle.std.specs.Option.{option_map, option_and_then}
-use Rattle.std.specs.Prelude.{◌&&◌, ◌||◌}
+use Rattle.std.specs.Option.{option_map}
+use Rattle.std.specs.Prelude.{◌||◌}
 use Rattle.std.proofs.lemmas.List.{append-nil, map-append, length-map}
 use Rattle.std.proofs.lemmas.Bool.{le-ltb}
 use Rattle.std.proofs.lemmas.Bool.Decides.{nat_tests}
 use Rattle.value_meaning.specs.Val.{Val, Vals, no_vals, val, items}
 use Rattle.block_meaning.specs.Tables.{Table}
-use Rattle.block_meaning.specs.CellReading.{Reader, cells_by, cell_to}
+use Rattle.block_meaning.specs.CellReading.{cells_by, cell_to}
 use Rattle.block_meaning.specs.Blocks.{is_struct, all_structs, as_rows, rows_in}
 use Rattle.block_meaning.proofs.Answered.{chosen, some_is, none_is, then_is, map_is, and_true}
 use Rattle.block_meaning.proofs.CellSteps.{cell_shrinks, cells_next}

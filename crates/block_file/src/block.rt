@@ -1,6 +1,6 @@
-ghost use Rattle.std.specs.Prelude.{◌≡◌, ◌<◌, length, true, Some, slice_get};
-ghost use Rattle.block_meaning.specs.Blocks.{is_struct};
+ghost use Rattle.std.specs.Prelude.{◌≡◌, ◌<◌, ◌≤◌, length, take};
 
+use crate::chunk::Chunk;
 use ion_cells::Cell;
 use ion_symtab::SymTab;
 use std::marker::Model;
@@ -31,10 +31,11 @@ impl<'b> Model for Block<'b> {
 }
 
 impl<'b> Block<'b> {
-    ghost use Rattle.std.specs.Prelude.{◌≡◌, ◌<◌, length, true, Some, slice_get, map};
+    ghost use Rattle.std.specs.Prelude.{◌≡◌, ◌<◌, ◌≤◌, ◌-◌, ◌%◌, length, true, Some, slice_get, map, min, take, drop};
     ghost use Rattle.ion_cells.specs.Shown.{Fits, shown};
     ghost use Rattle.block_file.specs.Rows.{AreBlockCells};
-    ghost use Rattle.block_meaning.specs.Blocks.{is_struct};
+    ghost use Rattle.block_meaning.specs.Blocks.{is_struct, AreRows};
+    ghost use Rattle.block_file.specs.Chunks.{AreCellsOf};
 
     /// The block of this table and these rows.
     pub(crate) fn of_rows(table: SymTab<'b>, rows: Vec<Cell<'b>>) -> Block<'b>
@@ -68,4 +69,39 @@ impl<'b> Block<'b> {
     {
         self.rows[at as usize]
     }
+
+    /// Tells what holds of every block.
+    pub fn know(&self)
+        ensures structs { AreRows self.now.1 }
+        ensures some { 1 ≤ length self.now.1 }
+        ensures few { length self.now.1 ≤ 65_536 }
+    {
+        let _ = &self.rows;
+    }
+
+    /// The rows from the place `first` on, at most sixteen of them.
+    pub fn chunk(&self, first: u32) -> Chunk<'b>
+        requires within { first < length self.now.1 }
+        requires whole { first % 16 ≡ 0 }
+        ensures long { length result ≡ min 16 (length self.now.1 - first) }
+        ensures cells { AreCellsOf self.now.0 (take 16 (drop first self.now.1)) result }
+    {
+        let start = first as usize;
+        let count = (self.rows.len() - start).min(16);
+        Chunk::of_rows(lanes_of(&self.rows[start..start + count]), count)
+    }
+}
+
+/// The cells at the front, and cells that don't count behind them.
+fn lanes_of<'b>(cells: &[Cell<'b>]) -> [Cell<'b>; 16]
+    requires some { 1 ≤ length cells.now }
+    requires few { length cells.now ≤ 16 }
+    ensures long { length result ≡ 16 }
+    ensures cells { take (length cells.now) result ≡ cells.now }
+{
+    let mut lanes = [cells[0]; 16];
+    for i in 1..cells.len() {
+        lanes[i] = cells[i];
+    }
+    lanes
 }

@@ -2,6 +2,7 @@
 #![tactic(auto)]
 
 mod block;
+mod chunk;
 mod fault;
 mod opening;
 mod rows;
@@ -9,5 +10,6 @@ mod rows;
 mod tests;
 
 pub use block::Block;
+pub use chunk::Chunk;
 pub use fault::BlockFault;
 pub use opening::open_block;

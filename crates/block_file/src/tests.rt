@@ -199,3 +199,25 @@ fn opens_as_many_bytes_as_there_may_be(rt: HostRuntime) -> Result<(), Fail> {
     assert!(rt; is_damaged(rt.alloc(), over.as_slice(), 1));
     Ok(())
 }
+
+#[test]
+fn hands_out_sixteen_rows_at_a_time(rt: HostRuntime) -> Result<(), Fail> {
+    let mut bytes = Vec::from_slice(rt.alloc(), HEAD)?;
+    for i in 0..20u8 {
+        bytes.extend_from_slice(&[0xD3, 0x8A, 0x21, i + 1])?;
+    }
+    match open_block(rt.alloc(), bytes.as_slice(), 20) {
+        Ok(block) => {
+            assert_eq!(rt; block.rows(), 20);
+            let first = block.chunk(0);
+            assert_eq!(rt; first.live(), 0xFFFF);
+            assert_eq!(rt; first.row(0), [0xD3, 0x8A, 0x21, 1].as_slice());
+            assert_eq!(rt; first.row(15), [0xD3, 0x8A, 0x21, 16].as_slice());
+            let last = block.chunk(16);
+            assert_eq!(rt; last.live(), 0x000F);
+            assert_eq!(rt; last.row(3), [0xD3, 0x8A, 0x21, 20].as_slice());
+            Ok(())
+        }
+        Err(_) => Err("no block".into()),
+    }
+}

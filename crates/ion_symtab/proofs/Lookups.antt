@@ -1,5 +1,5 @@
 -- Looking up the text of a number by its place, and the number of a text by a binary search.
-use Rattle.std.proofs.Common.{◌≡◌, ◌≢◌, ℕ, zero, suc, ◌+◌, ◌-◌, ◌<◌, ◌≤◌, Bool, true, false, List, [], ◌∷◌, length, get_or, map, Option, Some, None, Bor, slice_get, eqb, refl, sym, ap, ◌∙◌, arith}
+use Rattle.std.proofs.Common.{◌≡◌, ℕ, zero, suc, ◌+◌, ◌-◌, ◌<◌, ◌≤◌, Bool, true, false, List, [], ◌∷◌, length, get_or, map, Option, Some, None, Bor, slice_get, eqb, refl, sym, ap, ◌∙◌, arith}
 use Rattle.std.proofs.lemmas.Bool.Decides.{nat_tests}
 use Rattle.std.specs.Ordering.{nat_cmp, ordering_index}
 use Rattle.std.specs.declared.cmp.Ordering.{Ordering}
@@ -12,7 +12,7 @@ use Rattle.std.proofs.lemmas.Cmp.{nat_list_cmp_total, alike_right, tied_itself}
 use Rattle.std.proofs.lemmas.Map.Lookups.{exact_bytes}
 use Rattle.value_meaning.specs.Pairs.{IsBelow}
 use Rattle.block_meaning.specs.Tables.{Table, TextsRise, text_from, text_of}
-use Rattle.block_meaning.proofs.Symbols.{text_of_is, text_of_range, text_of_below}
+use Rattle.block_meaning.proofs.Symbols.{text_of_is}
 
 text_get : (table : Table) (first i : ℕ) → text_from first table (first + i) ≡ slice_get table i
 text_get [] first i = refl

@@ -1,10 +1,10 @@
 -- The items of lists and the pairs of structs, taken one by one.
-use Rattle.std.proofs.Common.{◌≡◌, ℕ, suc, ◌+◌, ◌*◌, ◌-◌, ◌<◌, ◌≤◌, Bool, List, [], ◌∷◌, ◌++◌, length, get_or, Some, None, refl, sym, ap, subst, ◌∙◌, arith}
+use Rattle.std.proofs.Common.{◌≡◌, ℕ, ◌+◌, ◌-◌, ◌<◌, ◌≤◌, Bool, List, [], ◌∷◌, ◌++◌, Some, None, refl, sym, ap, subst, ◌∙◌, arith}
 use Rattle.std.proofs.lemmas.List.{append_assoc}
 use Rattle.std.specs.Prelude.{unwrap_or}
 use Rattle.value_meaning.specs.Val.{Val, Vals, Fields, list, struct, size, vals_size, fields_size, vals, fields, items, pairs}
 use Rattle.value_meaning.specs.Pairs.{IsBelow, IsAboveLast}
-use Rattle.block_meaning.specs.Tables.{Table, TextsRise, last_symbol, text_of}
+use Rattle.block_meaning.specs.Tables.{Table, TextsRise, text_of}
 use Rattle.block_meaning.proofs.Answered.{some_is, none_is}
 use Rattle.block_meaning.proofs.BlockReading.{vals-items}
 use Rattle.block_meaning.proofs.Symbols.{text_of_some, text_of_range, text_of_is}

@@ -1,4 +1,4 @@
-use Rattle.std.proofs.Common.{◌≡◌, ◌≤◌, ◌^◌, ◌-◌, ℕ, length, drop, refl, arith, Err, ap}
+use Rattle.std.proofs.Common.{◌≡◌, drop, arith, Err, ap}
 use Rattle.ion_cells.specs.Standing.{HasLast}
 use Rattle.block_file.specs.declared.fault.BlockFault.TheVariants as BlockFault
 use Rattle.block_file.proofs.Opened.{opened, bad_table, bad_rows}

@@ -1,4 +1,4 @@
-use Rattle.std.proofs.Common.{◌≡◌, sym, ◌∙◌}
+use Rattle.std.proofs.Common.{◌∙◌}
 use Rattle.ion_cells.specs.Shown.{is_symbol_cell}
 use Rattle.block_file.proofs.RowAt.{row_there, no_struct, no_cell}
 use Rattle.block_file.proofs.rows.row_at.Goals as goal

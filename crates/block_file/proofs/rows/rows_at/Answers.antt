@@ -1,5 +1,5 @@
-use Rattle.std.proofs.Common.{◌≡◌, ◌+◌, ◌<◌, ◌≤◌, length, drop, ap, sym, ◌∙◌, arith, length-append, length-drop}
-use Rattle.block_file.proofs.RowsRead.{Walked, walk_row, walk_end, walk_stop, walk_over}
+use Rattle.std.proofs.Common.{length, drop, ap, arith, length-append, length-drop}
+use Rattle.block_file.proofs.RowsRead.{walk_row, walk_end, walk_stop, walk_over}
 use Rattle.block_file.proofs.rows.rows_at.Goals as goal
 
 pub returns-in-None-clause-damaged : goal.returns-in-None-clause-damaged

@@ -1,4 +1,4 @@
-use Rattle.std.proofs.Common.{◌≡◌, ◌≤◌, ◌-◌, length, drop}
+use Rattle.std.proofs.Common.{◌≤◌, ◌-◌, length, drop}
 use Rattle.block_meaning.specs.Tables.{Table}
 use Rattle.ion_cells.specs.Standing.{HasLast}
 use Rattle.block_file.proofs.RowsRead.{Walked}

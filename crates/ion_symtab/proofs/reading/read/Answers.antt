@@ -1,8 +1,5 @@
-use Rattle.std.proofs.Common.{◌≡◌, ◌-◌, ◌<◌, ◌≤◌, ◌^◌, ℕ, List, length, drop, map, Some, Err, Bor, subst, sym, ap, ◌∙◌, arith}
+use Rattle.std.proofs.Common.{◌≡◌, ℕ, List, map, Err, Bor, ap, arith}
 use Rattle.std.proofs.lemmas.List.{length-map}
-use Rattle.block_meaning.specs.Tables.{Table}
-use Rattle.block_meaning.specs.Blocks.{IsTable, table_at}
-use Rattle.block_meaning.specs.Laws.{HasFront}
 use Rattle.ion_symtab.specs.declared.fault.TabFault.TheVariants as TabFault
 use Rattle.ion_symtab.proofs.TableRead.{read_tail, no_tail}
 use Rattle.ion_symtab.proofs.reading.read.Goals as goal

@@ -1,4 +1,4 @@
-use Rattle.std.proofs.Common.{arith, length, drop, length-drop}
+use Rattle.std.proofs.Common.{arith, drop, length-drop}
 use Rattle.ion_symtab.proofs.TextsRead.{lent_step, text_stop}
 use Rattle.ion_symtab.proofs.texts.texts_of.Goals as goal
 

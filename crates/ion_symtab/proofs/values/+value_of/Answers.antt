@@ -1,9 +1,8 @@
 use Rattle.std.proofs.Common.{◌≡◌, ◌<◌, ◌+◌, ◌*◌, ◌-◌, length, sym, ap, ◌∙◌, arith}
-use Rattle.value_meaning.specs.Val.{size, vals_size, fields_size, vals, fields, list, struct}
+use Rattle.value_meaning.specs.Val.{vals, fields, list, struct}
 use Rattle.snel_values.specs.View.{view}
-use Rattle.ion_cells.specs.Standing.{HasLast}
 use Rattle.ion_cells.specs.Shown.{shown, is_symbol_cell}
-use Rattle.ion_cells.specs.Iterating.{items_last, values_left, fields_last, fields_low, pairs_left, labelled}
+use Rattle.ion_cells.specs.Iterating.{values_left, fields_last, fields_low, pairs_left, labelled}
 use Rattle.ion_symtab.proofs.Members.{item_smaller, pair_smaller, one_more, listed, structured, list_size, struct_size, has_text, name_is, above_next}
 use Rattle.ion_symtab.proofs.values.+value_of.Goals as goal
 

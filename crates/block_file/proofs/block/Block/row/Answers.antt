@@ -1,10 +1,10 @@
-use Rattle.std.proofs.Common.{◌≡◌, ◌<◌, ℕ, List, length, map, ap, subst, arith, true, Some}
+use Rattle.std.proofs.Common.{◌≡◌, ℕ, List, length, ap, subst, arith, true, Some}
 use Rattle.std.specs.Prelude.{slice_get}
 use Rattle.std.proofs.lemmas.List.{length-map}
 use Rattle.value_meaning.specs.Val.{Val}
 use Rattle.block_meaning.specs.Blocks.{is_struct}
 use Rattle.ion_cells.specs.Shown.{Fits, shown}
-use Rattle.block_file.proofs.RowCells.{RowCell, row_cell}
+use Rattle.block_file.proofs.RowCells.{row_cell}
 use Rattle.block_file.proofs.block.Block.row.Goals as goal
 
 abbrev Seen : Type 0

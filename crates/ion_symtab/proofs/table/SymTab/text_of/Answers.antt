@@ -1,4 +1,4 @@
-use Rattle.std.proofs.Common.{◌≡◌, ◌-◌, ℕ, List, map, Bor, slice_get, sym, ap, ◌∙◌}
+use Rattle.std.proofs.Common.{◌-◌, ℕ, List, map, Bor, slice_get, sym, ap, ◌∙◌}
 use Rattle.std.specs.Option.{option_map}
 use Rattle.block_meaning.specs.Tables.{Table}
 use Rattle.block_meaning.proofs.Symbols.{text_of_below}
