@@ -1,8 +1,8 @@
 -- Lines that are made pair by pair.
 use Rattle.std.specs.Prelude.{ℕ, Bool, false, List, ◌∷◌, ◌++◌, length, nat_lt}
-use Rattle.value_meaning.specs.Val.{Val, fields}
+use Rattle.value_meaning.specs.Val.{fields}
 use Rattle.answer_meaning.specs.Made.{Output}
-use Rattle.answer_meaning.specs.Lines.{comma_if, value_text, fields_text}
+use Rattle.answer_meaning.specs.Lines.{comma_if, fields_text}
 use Rattle.json.specs.Print.{quoted}
 
 -- a line so far: the brace and the pairs, without what ends it
