@@ -1,6 +1,7 @@
 -- How a call ends once the bytes of the block are there.
 use Rattle.std.proofs.Common.{◌≡◌, ℕ, List, [], ◌∷◌, length, Option, Some, None, Result, Ok, Err, refl, ap, sym, subst, ◌∙◌, arith, true, false}
 use Rattle.std.specs.Prelude.{IsSomeAnd, IsErrOf}
+use Rattle.std.specs.Io.KnownBytes.{Keeps}
 use Rattle.snel_device.specs.Contents.{Contents}
 use Rattle.value_meaning.specs.Val.{Val}
 use Rattle.block_meaning.specs.Tables.{Table}
@@ -16,7 +17,7 @@ use Rattle.snel_prog.specs.Written.{Writes, rows_text}
 use Rattle.snel_prog.specs.Statuses.{status_of, status_after, IsWriteOrMemory, IsBlockRefusal}
 use Rattle.snel_prog.specs.Verdicts.{Verdict, no_command, no_query, no_such_file, no_block_file, bad_block, rows, unknown, Allows, EndsAs}
 use Rattle.snel_prog.specs.Causes.{FindsInBlock, FindsInFile, FindsInFiles, Finds, HasBadBlock}
-use Rattle.snel_prog.specs.Refusals.{HasItsCause}
+use Rattle.snel_prog.specs.Refusals.{HasItsCause, IsQuiet}
 use Rattle.snel_prog.specs.Loading.{HasBlock}
 use Rattle.snel_prog.proofs.Sink.{Keeps-same}
 use Rattle.snel_prog.proofs.Verdicts.{answers, refused, memory_allowed}
@@ -135,3 +136,38 @@ block_cause sql name told n held built known (Err Damaged) refusal damaged = (
 block_cause sql name told n held built known (Err ReadFault) refusal damaged = absurd refusal
 block_cause sql name told n held built known (Err WriteFault) refusal damaged = (built, tt)
 block_cause sql name told n held built known (Err OutOfMemory) refusal damaged = (built, tt)
+
+-- where nothing was put, the sink is as it was
+pub quiet_same : (r : Result (Unit {0}) Refusal) (a : Option (List ℕ)) → IsQuiet r a a
+quiet_same (Ok u) a = tt
+quiet_same (Err Words) a = Keeps-same a
+quiet_same (Err Query) a = Keeps-same a
+quiet_same (Err Absent) a = Keeps-same a
+quiet_same (Err NotAFile) a = Keeps-same a
+quiet_same (Err Damaged) a = Keeps-same a
+quiet_same (Err ReadFault) a = Keeps-same a
+quiet_same (Err WriteFault) a = tt
+quiet_same (Err OutOfMemory) a = tt
+
+-- only a failed write and want of memory may come while rows are written
+pub quiet_writing : (r : Result (Unit {0}) Refusal) (old new : Option (List ℕ)) → IsWriteOrMemory r → IsQuiet r old new
+quiet_writing (Ok u) old new h = tt
+quiet_writing (Err Words) old new h = absurd h
+quiet_writing (Err Query) old new h = absurd h
+quiet_writing (Err Absent) old new h = absurd h
+quiet_writing (Err NotAFile) old new h = absurd h
+quiet_writing (Err Damaged) old new h = absurd h
+quiet_writing (Err ReadFault) old new h = absurd h
+quiet_writing (Err WriteFault) old new h = tt
+quiet_writing (Err OutOfMemory) old new h = tt
+
+pub quiet_by_status : (r : Result (Unit {0}) Refusal) (status : ℕ) (old new : Option (List ℕ)) → status ≡ status_after r → IsQuiet r old new → (status ≡ 0 → ⊥) → (status ≡ 9 → ⊥) → (status ≡ 10 → ⊥) → Keeps old new
+quiet_by_status (Ok u) status old new is quiet done write memory = absurd (done is)
+quiet_by_status (Err Words) status old new is quiet done write memory = quiet
+quiet_by_status (Err Query) status old new is quiet done write memory = quiet
+quiet_by_status (Err Absent) status old new is quiet done write memory = quiet
+quiet_by_status (Err NotAFile) status old new is quiet done write memory = quiet
+quiet_by_status (Err Damaged) status old new is quiet done write memory = quiet
+quiet_by_status (Err ReadFault) status old new is quiet done write memory = quiet
+quiet_by_status (Err WriteFault) status old new is quiet done write memory = absurd (write is)
+quiet_by_status (Err OutOfMemory) status old new is quiet done write memory = absurd (memory is)

@@ -44,7 +44,8 @@ Finds (query sql name) told no_query = is_built sql ≡ false
 Finds (query sql name) told verdict = (is_built sql ≡ true) × FindsInFiles told name verdict
 Finds ask told verdict = ⊥
 
--- A call ended as each verdict allows that the words and the files give rise to. There is never more than one.
+-- A call ended as each verdict allows that the words and the files give rise to. There is exactly one: each cause stands
+-- beside its absence, and a file has one index and a block one list of rows.
 abbrev pub Ends : Ask → Option Contents → ℕ → Option (List ℕ) → Option (List ℕ) → Type 0
 Ends ask told status old new = (verdict : Verdict) → Finds ask told verdict → EndsAs verdict status old new
 

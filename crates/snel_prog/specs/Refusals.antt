@@ -1,5 +1,6 @@
 -- What each refusal says of the words and the files.
 use Rattle.std.specs.Prelude.{◌≡◌, ℕ, true, false, List, [], ◌∷◌, ⊤, Option, Some, None, Result, Ok, Err}
+use Rattle.std.specs.Io.KnownBytes.{Keeps}
 use Rattle.snel_device.specs.Contents.{Contents}
 use Rattle.snel_prog.specs.Words.{Ask, nothing, query, is_built}
 use Rattle.snel_prog.specs.Causes.{HasNoBlock, HasBadBlock}
@@ -34,6 +35,13 @@ Says nothing told Words = ⊤
 Says nothing told OutOfMemory = ⊤
 Says nothing told refusal = ⊥
 Says (query sql name) told refusal = SaysOfQuery sql told name refusal
+
+-- A refusal other than a failed write and want of memory leaves the sink as it was.
+abbrev pub IsQuiet : Result (Unit {0}) Refusal → Option (List ℕ) → Option (List ℕ) → Type 0
+IsQuiet (Ok _) old new = ⊤
+IsQuiet (Err WriteFault) old new = ⊤
+IsQuiet (Err OutOfMemory) old new = ⊤
+IsQuiet (Err refusal) old new = Keeps old new
 
 abbrev pub HasItsCause : Ask → Option Contents → Result (Unit {0}) Refusal → Type 0
 HasItsCause ask told (Ok _) = ⊤

@@ -27,6 +27,7 @@ pub fn load<F: Files>(alloc: Global, files: &mut F, name: &str) -> Result<Stored
     ensures cause { IfErr result (λ refusal. SaysOfFile (F.told files.old) name.now refusal) }
     ensures never_writes { IsErrOf result Refusal.WriteFault → ⊥ }
     ensures told { F.told files.new ≡ F.told files.old }
+    ensures same_write_faults { F.write_faults files.new ≡ F.write_faults files.old }
     ensures fault { HasCause (F.read_faults files.old) (F.read_faults files.new) (IsErrOf result Refusal.ReadFault) }
     ensures missed { HasCause (F.misses files.old) (F.misses files.new) (IsErrOf result Refusal.Absent) }
 {
@@ -50,6 +51,7 @@ fn one_entry<F: Files>(alloc: Global, files: &mut F, name: &str) -> Result<Entry
     ensures cause { IfErr result (λ refusal. SaysOfFile (F.told files.old) name.now refusal) }
     ensures never_writes { IsErrOf result Refusal.WriteFault → ⊥ }
     ensures told { F.told files.new ≡ F.told files.old }
+    ensures same_write_faults { F.write_faults files.new ≡ F.write_faults files.old }
     ensures fault { HasCause (F.read_faults files.old) (F.read_faults files.new) (IsErrOf result Refusal.ReadFault) }
     ensures missed { HasCause (F.misses files.old) (F.misses files.new) (IsErrOf result Refusal.Absent) }
 {

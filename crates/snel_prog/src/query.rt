@@ -6,7 +6,7 @@ ghost use Rattle.snel_prog.specs.Words.{query};
 ghost use Rattle.snel_prog.specs.Statuses.{status_after, IsWriteOrMemory, IsBlockRefusal};
 ghost use Rattle.snel_prog.specs.Verdicts.{Verdict, EndsAs};
 ghost use Rattle.snel_prog.specs.Causes.{Ends, FindsInBlock};
-ghost use Rattle.snel_prog.specs.Refusals.{HasItsCause};
+ghost use Rattle.snel_prog.specs.Refusals.{HasItsCause, IsQuiet};
 ghost use Rattle.snel_prog.specs.Written.{Writes, rows_text};
 
 use crate::ask::is_built;
@@ -28,10 +28,12 @@ pub fn run_query<F: Files, O: Out>(
 ) -> Result<(), Refusal>
     ensures ends { Ends (query sql.now name.now) (F.told files.old) (status_after result) (O.holds out.old) (O.holds out.new) }
     ensures cause { HasItsCause (query sql.now name.now) (F.told files.old) result }
+    ensures quiet { IsQuiet result (O.holds out.old) (O.holds out.new) }
     ensures absent { IsErrOf result Refusal.Absent → Rose (F.misses files.old) (F.misses files.new) }
     ensures read_fault { IsErrOf result Refusal.ReadFault → Rose (F.read_faults files.old) (F.read_faults files.new) }
     ensures write_fault { IsErrOf result Refusal.WriteFault → Rose (O.faults out.old) (O.faults out.new) }
     ensures told { F.told files.new ≡ F.told files.old }
+    ensures same_write_faults { F.write_faults files.new ≡ F.write_faults files.old }
 {
     if !is_built(sql) {
         return Err(Refusal::Query);
@@ -46,6 +48,7 @@ pub fn run_query<F: Files, O: Out>(
 // Writes the rows of a block that isn't damaged.
 fn write_stored<O: Out>(alloc: Global, stored: &Stored, out: &mut O) -> Result<(), Refusal>
     ensures ends { (verdict : Verdict) → FindsInBlock stored.now.rows stored.now.bytes.items verdict → EndsAs verdict (status_after result) (O.holds out.old) (O.holds out.new) }
+    ensures quiet { IsQuiet result (O.holds out.old) (O.holds out.new) }
     ensures damaged { IsErrOf result Refusal.Damaged → IsDamaged stored.now.rows stored.now.bytes.items }
     ensures refused { IsBlockRefusal result }
     ensures fault { HasCause (O.faults out.old) (O.faults out.new) (IsErrOf result Refusal.WriteFault) }

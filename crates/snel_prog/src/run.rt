@@ -1,6 +1,6 @@
 //! The top call.
-ghost use Rattle.std.specs.Prelude.{◌≡◌, ◌⊎◌, List, ℕ, None, IfSome, IsErrOf, false};
-ghost use Rattle.std.specs.Io.KnownBytes.{Appends};
+ghost use Rattle.std.specs.Prelude.{◌≡◌, ◌≢◌, ◌⊎◌, List, ℕ, None, IfSome, IsErrOf, false};
+ghost use Rattle.std.specs.Io.KnownBytes.{Appends, Keeps};
 ghost use Rattle.snel_device.specs.Causes.{Rose};
 ghost use Rattle.snel_prog.specs.Words.{asked, nothing, query, is_built};
 ghost use Rattle.snel_prog.specs.Statuses.{status_after};
@@ -8,7 +8,7 @@ ghost use Rattle.snel_prog.specs.Messages.{line_of};
 ghost use Rattle.snel_prog.specs.Verdicts.{rows, Exactly, ExactlyOnceRead};
 ghost use Rattle.value_meaning.specs.Val.{Val};
 ghost use Rattle.snel_prog.specs.Causes.{Finds, Ends, OfFile, HasNoBlock, HasBadBlock};
-ghost use Rattle.snel_prog.specs.Refusals.{HasItsCause};
+ghost use Rattle.snel_prog.specs.Refusals.{HasItsCause, IsQuiet};
 ghost use Rattle.snel_prog.specs.Headline.{Headline};
 
 use crate::ask::{Ask, asked};
@@ -36,8 +36,10 @@ pub fn snel<R: Threads + Sync, F: Files, I: Input + Send, O: Out, E: Out, G: Gat
     // The bytes written are those of an answer: all of them at status 0, else a prefix.
     ensures headline { Headline (asked words.now) (F.told files.old) result (O.holds out.old) (O.holds out.new) }
 
-    // The status belongs to the first refusal or to the answer, and a refusal writes nothing.
+    // The status belongs to the first refusal or to the answer, and what stands against the words, the query or the file
+    // leaves the output as it was. So does every status but 0, 9 and 10.
     ensures ends { Ends (asked words.now) (F.told files.old) result (O.holds out.old) (O.holds out.new) }
+    ensures quiet { result ≢ 0 → result ≢ 9 → result ≢ 10 → Keeps (O.holds out.old) (O.holds out.new) }
 
     // When each status comes.
     ensures bad_words { Exactly 2 result (asked words.now ≡ nothing) }
@@ -52,8 +54,10 @@ pub fn snel<R: Threads + Sync, F: Files, I: Input + Send, O: Out, E: Out, G: Gat
     // Where nothing stands against the call and no fault rose, it is done, unless memory wants.
     ensures complete { (rs : List Val) → Finds (asked words.now) (F.told files.old) (rows rs) → ¬ Rose (F.read_faults files.old) (F.read_faults files.new) → ¬ Rose (O.faults out.old) (O.faults out.new) → (result ≡ 0) ⊎ (result ≡ 10) }
 
-    // No file changes, and where `err` took it, it has the line of the status.
+    // No file changes, nothing is taken from the input, and where `err` took it, it has the line of the status.
     ensures told { F.told files.new ≡ F.told files.old }
+    ensures same_write_faults { F.write_faults files.new ≡ F.write_faults files.old }
+    ensures input { I.left _input.new ≡ I.left _input.old }
     ensures line { ¬ Rose (E.faults err.old) (E.faults err.new) → Appends (E.holds err.old) (E.holds err.new) (line_of result words.now) }
 {
     match run(alloc, words, files, out) {
@@ -74,11 +78,13 @@ fn run<F: Files, O: Out>(
     out: &mut O,
 ) -> Result<(), Refusal>
     ensures ends { Ends (asked words.now) (F.told files.old) (status_after result) (O.holds out.old) (O.holds out.new) }
+    ensures quiet { IsQuiet result (O.holds out.old) (O.holds out.new) }
     ensures cause { HasItsCause (asked words.now) (F.told files.old) result }
     ensures absent { IsErrOf result Refusal.Absent → Rose (F.misses files.old) (F.misses files.new) }
     ensures read_fault { IsErrOf result Refusal.ReadFault → Rose (F.read_faults files.old) (F.read_faults files.new) }
     ensures write_fault { IsErrOf result Refusal.WriteFault → Rose (O.faults out.old) (O.faults out.new) }
     ensures told { F.told files.new ≡ F.told files.old }
+    ensures same_write_faults { F.write_faults files.new ≡ F.write_faults files.old }
 {
     match asked(words) {
         Ask::Nothing => Err(Refusal::Words),

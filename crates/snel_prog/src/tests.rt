@@ -59,12 +59,24 @@ fn ends<R: Threads + Sync + Abort + AllocGlobal>(
     failing_puts: &[(u32, u32)],
     wanted: Wanted<'_>,
 ) -> Result<(), Fail> {
+    ends_beside(rt, texts, failing, failing_puts, &[], wanted)
+}
+
+// The same, where some puts to the error output fail too.
+fn ends_beside<R: Threads + Sync + Abort + AllocGlobal>(
+    rt: &R,
+    texts: &[&str],
+    failing: &[u32],
+    failing_puts: &[(u32, u32)],
+    failing_lines: &[(u32, u32)],
+    wanted: Wanted<'_>,
+) -> Result<(), Fail> {
     let alloc = rt.alloc();
     let words = words_of(alloc, texts)?;
     let mut files = stored(alloc, failing)?;
     let mut input = SteadyInput::new(&[]);
     let mut out = MemOut::new(alloc, failing_puts)?;
-    let mut err = MemOut::new(alloc, &[])?;
+    let mut err = MemOut::new(alloc, failing_lines)?;
     let status = snel(
         rt, alloc, &words, &mut files, &mut input, &mut out, &mut err, &OpenGate,
     );
@@ -134,6 +146,27 @@ fn each_status_comes(rt: HostRuntime) -> Result<(), Fail> {
     )
 }
 
+#[test]
+fn no_fault_of_the_error_output_changes_a_status(rt: HostRuntime) -> Result<(), Fail> {
+    ends_beside(&rt, &["query"], &[], &[], &[(1, 0)], (2, "", ""))?;
+    ends_beside(
+        &rt,
+        &["query", ALL, "absent"],
+        &[],
+        &[],
+        &[(2, 1)],
+        (4, "", "snel: a"),
+    )?;
+    ends_beside(
+        &rt,
+        &["query", ALL, "absent"],
+        &[],
+        &[],
+        &[(3, 0)],
+        (4, "", "snel: absent"),
+    )
+}
+
 // A file's size, tail, index and block are read by one call each.
 #[test]
 fn each_read_may_fail(rt: HostRuntime) -> Result<(), Fail> {
@@ -174,6 +207,63 @@ fn each_put_may_fail(rt: HostRuntime) -> Result<(), Fail> {
         )?;
     }
     ends(&rt, &["query", ALL, "rows"], &[], &[(4, 0)], (0, LINES, ""))
+}
+
+// A block of one row: the marker, a symbol table and the row. The first table has `a`, the second `a` and `b`.
+const OF_A: &[u8] = b"\xe0\x01\x00\xea\xe7\x81\x83\xd4\x87\xb2\x81\x61";
+
+const OF_A_AND_B: &[u8] = b"\xe0\x01\x00\xea\xe9\x81\x83\xd6\x87\xb4\x81\x61\x81\x62";
+
+// A block file with this one block of one row.
+fn file_of(alloc: Global, table: &[u8], row: &[u8]) -> Result<Vec<u8>, Fail> {
+    let mut bytes = table.to_vec(alloc)?;
+    bytes.extend_from_slice(row)?;
+    let length = u32::try_from(bytes.len()).ok().ok_or("too long")?;
+    bytes.extend_from_slice(b"SNX1\x00\x00\x00\x00\x00\x01\x00\x00\x00\x00\x00\x00\x00\x00")?;
+    bytes.extend_from_slice(&length.to_be_bytes())?;
+    bytes.extend_from_slice(
+        b"\x00\x00\x00\x01\x00\x00\x00\x00\x00\x00\x00\x01\x00\x00\x00\x00\x00\x00\x00\x00",
+    )?;
+    bytes.extend_from_slice(&u64::from(length).to_be_bytes())?;
+    bytes.extend_from_slice(b"SNX1")?;
+    Ok(bytes)
+}
+
+#[test]
+fn each_kind_is_printed(rt: HostRuntime) -> Result<(), Fail> {
+    let alloc = rt.alloc();
+    let cases: [(&[u8], &[u8], u8, &str); 6] = [
+        (
+            OF_A,
+            b"\xde\x8e\x8a\x6c\x80\x0f\xe8\x82\x9d\x97\xbb\xbb\xc6\x0f\x42\x3f",
+            0,
+            "{\"a\":\"2024-02-29T23:59:59.999999Z\"}\n",
+        ),
+        (OF_A, b"\xd2\x8a\x2f", 0, "{\"a\":null}\n"),
+        (
+            OF_A,
+            b"\xd6\x8a\xb4\x21\x01\x11\x0f",
+            0,
+            "{\"a\":[1,true,null]}\n",
+        ),
+        (OF_A, b"\xd2\x8a\x40", 6, ""),
+        (OF_A_AND_B, b"\xd3\x8a\x71\x0b", 0, "{\"a\":\"b\"}\n"),
+        (OF_A_AND_B, b"\xd6\x8b\x81\x78\x8a\x21\x01", 6, ""),
+    ];
+    for (table, row, status, line) in cases {
+        let bytes = file_of(alloc, table, row)?;
+        let mut files = MemFiles::new(alloc, &[])?;
+        files.insert("row", &bytes)?;
+        let words = words_of(alloc, &["query", ALL, "row"])?;
+        let (mut input, mut err) = (SteadyInput::new(&[]), SteadyOut::new());
+        let mut out = MemOut::new(alloc, &[])?;
+        let ended = snel(
+            &rt, alloc, &words, &mut files, &mut input, &mut out, &mut err, &OpenGate,
+        );
+        assert_eq!(rt; ended, status);
+        assert_eq!(rt; out.bytes(), line.as_bytes());
+    }
+    Ok(())
 }
 
 // Over objects that never fail, no status says that one did.

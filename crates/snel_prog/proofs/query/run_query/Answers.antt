@@ -1,8 +1,8 @@
-use Rattle.std.proofs.Common.{◌≡◌, true, sym, ◌∙◌}
+use Rattle.std.proofs.Common.{◌≡◌, Err, true, sym, ◌∙◌}
 use Rattle.snel_prog.specs.Verdicts.{Verdict, EndsAs}
 use Rattle.snel_prog.specs.Statuses.{status_of, status_after}
 use Rattle.snel_prog.proofs.Verdicts.{refused}
-use Rattle.snel_prog.proofs.BlockEnds.{not_zero, finds_file, in_files, block_cause}
+use Rattle.snel_prog.proofs.BlockEnds.{not_zero, quiet_same, finds_file, in_files, block_cause}
 use Rattle.snel_prog.proofs.query.run_query.Goals as goal
 
 pub returns-in-Err-clause-ends : goal.returns-in-Err-clause-ends
@@ -16,3 +16,6 @@ returns-clause-ends g c v f =
 pub returns-clause-cause : goal.returns-clause-cause
 returns-clause-cause g c =
     block_cause c.args.sql.now c.args.name.now (g.F.Files.told c.args.files.now) _ _ (sym c.is_built.ensures ∙ c.if-not-is_built.false) c.in-Ok.ensures.stored c.write_stored.result c.write_stored.ensures.refused c.write_stored.ensures.damaged
+
+pub returns-in-Err-clause-quiet : goal.returns-in-Err-clause-quiet
+returns-in-Err-clause-quiet g c = quiet_same (Err c.in-Err.refusal) _

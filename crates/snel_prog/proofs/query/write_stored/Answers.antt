@@ -1,7 +1,8 @@
 use Rattle.std.proofs.Common.{◌≡◌, ℕ, List, subst, arith, refl}
 use Rattle.block_meaning.specs.Blocks.{IsBlock, IsDamaged}
+use Rattle.snel_prog.proofs.Sink.{Keeps-same}
 use Rattle.snel_prog.proofs.Verdicts.{refused, memory_allowed}
-use Rattle.snel_prog.proofs.BlockEnds.{may_be_damaged, ends_written}
+use Rattle.snel_prog.proofs.BlockEnds.{may_be_damaged, ends_written, quiet_writing}
 use Rattle.snel_prog.proofs.query.write_stored.Goals as goal
 
 pub returns-in-Err-Damaged-clause-ends : goal.returns-in-Err-Damaged-clause-ends
@@ -20,3 +21,9 @@ pub returns-clause-ends : goal.returns-clause-ends
 returns-clause-ends g c v f =
     let block = subst (λ (l : List ℕ). IsBlock c.in-Ok.block.0 c.in-Ok.block.1 l) c.deref.ensures.value c.in-Ok.ensures.rows.0 in
     ends_written _ _ _ _ c.write_rows.result _ _ block c.in-Ok.ensures.rows.1 c.write_rows.ensures.refused c.write_rows.ensures.written v f
+
+pub returns-in-Err-Damaged-clause-quiet : goal.returns-in-Err-Damaged-clause-quiet
+returns-in-Err-Damaged-clause-quiet g c = Keeps-same _
+
+pub returns-clause-quiet : goal.returns-clause-quiet
+returns-clause-quiet g c = quiet_writing c.write_rows.result _ _ c.write_rows.ensures.refused

@@ -5,6 +5,7 @@ use Rattle.snel_prog.specs.Statuses.{status_after}
 use Rattle.snel_prog.specs.Verdicts.{rows}
 use Rattle.snel_prog.specs.Causes.{Ends}
 use Rattle.snel_prog.proofs.Statuses.{Ended, refused_by, done_or_memory, bad_words, bad_query, absent_told, no_block_told, damaged_block}
+use Rattle.snel_prog.proofs.BlockEnds.{quiet_by_status}
 use Rattle.snel_prog.proofs.Headlines.{headline}
 use Rattle.snel_prog.proofs.run.snel.Goals as goal
 
@@ -139,3 +140,7 @@ returns-in-Err-clause-complete g c rs finds no_read no_write =
     let ends = subst (λ (n : ℕ). Ends ask told n old new) (sym is) c.run.ensures.ends in
     let h : Ended ask told c.run.result c.status-status.result old new = record { is = is; ends = ends; cause = c.run.ensures.cause } in
     done_or_memory c.status-status.result (λ e. no_read (c.run.ensures.read_fault (refused_by c.run.result ReadFault (sym is ∙ e) (λ z. omega arith)))) (λ e. no_write (c.run.ensures.write_fault (refused_by c.run.result WriteFault (sym is ∙ e) (λ z. omega arith)))) (h.ends (rows rs) finds).allowed
+
+pub returns-in-Err-clause-quiet : goal.returns-in-Err-clause-quiet
+returns-in-Err-clause-quiet g c done write memory =
+    quiet_by_status c.run.result c.status-status.result (g.O.Out.holds c.args.out.now) (g.O.Out.holds c.run.new.out) (c.status-status.ensures ∙ sym (ap status_after c.in-Err.is)) c.run.ensures.quiet done write memory
