@@ -1,5 +1,5 @@
 -- Looking up the text of a number by its place, and the number of a text by a binary search.
-use Rattle.std.proofs.Common.{◌≡◌, ℕ, zero, suc, ◌+◌, ◌-◌, ◌<◌, ◌≤◌, Bool, true, false, List, [], ◌∷◌, length, get_or, map, Option, Some, None, Bor, slice_get, eqb, refl, sym, ap, ◌∙◌, arith}
+use Rattle.std.proofs.Common.{◌≡◌, ◌↔◌, ℕ, zero, suc, ◌+◌, ◌-◌, ◌<◌, ◌≤◌, Bool, true, false, List, [], ◌∷◌, length, get_or, map, Option, Some, None, Bor, slice_get, eqb, refl, sym, ap, ◌∙◌, arith}
 use Rattle.std.proofs.lemmas.Bool.Decides.{nat_tests}
 use Rattle.std.specs.Ordering.{nat_cmp, ordering_index}
 use Rattle.std.specs.declared.cmp.Ordering.{Ordering}
@@ -7,12 +7,14 @@ use Rattle.std.specs.declared.cmp.Ordering.TheVariants.{Less, Equal, Greater}
 use Rattle.std.specs.Cmp.Lexicographic.{slice_cmp}
 use Rattle.std.specs.List.Sorted.{IsNonDecreasingBy, IsPartitionPoint}
 use Rattle.std.specs.List.{HoldsAt}
-use Rattle.std.specs.Option.{MatchOption, option_map}
+use Rattle.std.specs.Option.{MatchOption, IsSome, option_map}
 use Rattle.std.proofs.lemmas.Cmp.{nat_list_cmp_total, alike_right, tied_itself}
 use Rattle.std.proofs.lemmas.Map.Lookups.{exact_bytes}
 use Rattle.value_meaning.specs.Pairs.{IsBelow}
-use Rattle.block_meaning.specs.Tables.{Table, TextsRise, text_from, text_of}
-use Rattle.block_meaning.proofs.Symbols.{text_of_is}
+use Rattle.block_meaning.specs.Tables.{Table, TextsRise, last_symbol, text_from, text_of}
+use Rattle.ion_symtab.specs.Laws.{NumbersHaveTexts}
+use Rattle.block_meaning.proofs.Symbols.{text_of_is, text_of_range, text_of_some}
+use Rattle.block_meaning.proofs.Answered.{none_is}
 
 text_get : (table : Table) (first i : ℕ) → text_from first table (first + i) ≡ slice_get table i
 text_get [] first i = refl
@@ -133,3 +135,11 @@ text_got f xs i None far = sym (past f xs i far)
 text_got f xs i (Some x) h =
     let at = got (map f xs) i (f x.now) (omega (arith, h.0, shown_long f xs)) in
     sym (at ∙ ap Some (shown_at f xs i x.now ∙ ap f (sym (h.1 x.now))))
+
+-- a number has a text exactly from 10 to the last
+ranged : (table : Table) (n : ℕ) (o : Option (List ℕ)) → o ≡ text_of table n → IsSome o ↔ ((10 ≤ n) × (n ≤ last_symbol table))
+ranged table n None e = (λ h. cc, λ h. absurd (none_is _ (e ∙ (text_of_some table n h.0 h.1).1)))
+ranged table n (Some t) e = (λ h. text_of_range table n t (sym e), λ h. refl)
+
+pub numbers_have_texts : NumbersHaveTexts
+numbers_have_texts table n = ranged table n (text_of table n) refl

@@ -1,1 +1,2 @@
 pub mod TextCells
+pub mod Laws

@@ -12,5 +12,5 @@ mod values;
 
 pub use fault::TabFault;
 pub use reading::read;
-pub use table::SymTab;
+pub use table::{SymTab, numbers_have_texts};
 pub use values::value_of;

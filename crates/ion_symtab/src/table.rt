@@ -1,6 +1,7 @@
 ghost use Rattle.std.specs.Prelude.{◌≡◌, ℕ, ◌<◌, ◌^◌, Some, None, length, map, IfSome};
 ghost use Rattle.std.specs.Option.{option_map, IfNone};
 ghost use Rattle.block_meaning.specs.Tables as tables;
+ghost use Rattle.ion_symtab.specs.Laws.{NumbersHaveTexts};
 
 use std::marker::Model;
 
@@ -66,3 +67,8 @@ impl<'b> SymTab<'b> {
         let _ = &self.texts;
     }
 }
+
+/// A table has a text for each number from 10 to its last, and for no other.
+pub fn numbers_have_texts()
+    ensures { NumbersHaveTexts }
+{}
