@@ -103,12 +103,12 @@ abbrev pub ends_there : Option (Val × List ℕ) → Bool
 ends_there None = false
 ends_there (Some x) = length x.1 == 0
 
--- the value of bytes that are one cell, else MISSING, which no cell denotes
+-- the value of the cell at the front, else MISSING, which no cell denotes
 abbrev pub value_read : Option (Val × List ℕ) → Val
 value_read None = missing
 value_read (Some x) = x.0
 
--- The bytes are one cell under the table, at whatever depth it stands.
+-- The bytes are one cell under the table, one that stands in no list or struct.
 unfoldable pub is_cell : Table → List ℕ → Bool
 is_cell table bytes = ends_there (cell_to table 128 bytes)
 
