@@ -5,3 +5,5 @@ pub mod OfKind
 pub mod Going
 pub mod Rows
 pub mod MorePairs
+pub mod Members
+pub mod IfAny

@@ -4,6 +4,7 @@
 mod clock;
 mod lines;
 mod maker;
+mod owned;
 mod texts;
 mod times;
 mod values;
