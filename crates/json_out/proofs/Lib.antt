@@ -7,3 +7,4 @@ pub mod Rows
 pub mod MorePairs
 pub mod Members
 pub mod IfAny
+pub mod HavingTexts

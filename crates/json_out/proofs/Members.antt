@@ -5,25 +5,25 @@ use Rattle.json.specs.Print.{quoted}
 use Rattle.value_meaning.specs.Val.{Val, vals, fields, size, vals_size, fields_size}
 use Rattle.block_meaning.specs.Laws.{HasTimesInRange, HaveTimesInRange, PairsHaveTimesInRange}
 use Rattle.answer_meaning.specs.Lines.{comma_if, value_text, items_text, fields_text}
-use Rattle.json_out.specs.Whole.{IsWhole, AreWhole, HasWholeFields}
+use Rattle.json_out.specs.NoMissing.{HasNoMissing, HaveNoMissing, PairsHaveNoMissing}
 
 -- a value with a text, of less than this size
 pub record IsWithin (v : Val) (room : ℕ) : Type 0 where
   pub times : HasTimesInRange v
-  pub whole : IsWhole v
+  pub no_missing : HasNoMissing v
   pub below : size v < room
 
 -- What is written and the text of the items that are left are the text of all items.
 pub record ItemsStand (old new : List ℕ) (later : Bool) (all left : List Val) : Type 0 where
   pub times : HaveTimesInRange (vals left)
-  pub whole : AreWhole (vals left)
+  pub no_missing : HaveNoMissing (vals left)
   pub spells : new ++ items_text later (vals left) ≡ old ++ items_text false (vals all)
   pub smaller : vals_size (vals left) ≤ vals_size (vals all)
 
 -- What is written and the text of the pairs that are left are the text of all pairs.
 pub record PairsStand (old new : List ℕ) (later : Bool) (all left : List (List ℕ × Val)) : Type 0 where
   pub times : PairsHaveTimesInRange (fields left)
-  pub whole : HasWholeFields (fields left)
+  pub no_missing : PairsHaveNoMissing (fields left)
   pub spells : new ++ fields_text later (fields left) ≡ old ++ fields_text false (fields all)
   pub smaller : fields_size (fields left) ≤ fields_size (fields all)
 
@@ -36,7 +36,7 @@ module _ (old new : List ℕ) (later : Bool) (all left rest : List Val) (v : Val
       let small : vals_size (vals (v ∷ rest)) ≤ vals_size (vals all) = subst (λ (l : List Val). vals_size (vals l) ≤ vals_size (vals all)) e h.smaller in
       record {
         times = (subst (λ (l : List Val). HaveTimesInRange (vals l)) e h.times).0;
-        whole = (subst (λ (l : List Val). AreWhole (vals l)) e h.whole).0;
+        no_missing = (subst (λ (l : List Val). HaveNoMissing (vals l)) e h.no_missing).0;
         below = omega arith;
       }
 
@@ -45,7 +45,7 @@ module _ (old new : List ℕ) (later : Bool) (all left rest : List Val) (v : Val
       let small : vals_size (vals (v ∷ rest)) ≤ vals_size (vals all) = subst (λ (l : List Val). vals_size (vals l) ≤ vals_size (vals all)) e h.smaller in
       record {
         times = (subst (λ (l : List Val). HaveTimesInRange (vals l)) e h.times).1;
-        whole = (subst (λ (l : List Val). AreWhole (vals l)) e h.whole).1;
+        no_missing = (subst (λ (l : List Val). HaveNoMissing (vals l)) e h.no_missing).1;
         spells =
             ap (λ l. l ++ items_text true (vals rest)) f ∙ regroup new (comma_if later) (value_text v) (items_text true (vals rest))
             ∙ ap (λ (l : List Val). new ++ items_text later (vals l)) (sym e) ∙ h.spells;
@@ -61,7 +61,7 @@ module _ (old new : List ℕ) (later : Bool) (all left rest : List (List ℕ × 
       let small : fields_size (fields ((name, v) ∷ rest)) ≤ fields_size (fields all) = subst (λ (l : List (List ℕ × Val)). fields_size (fields l) ≤ fields_size (fields all)) e h.smaller in
       record {
         times = (subst (λ (l : List (List ℕ × Val)). PairsHaveTimesInRange (fields l)) e h.times).0;
-        whole = (subst (λ (l : List (List ℕ × Val)). HasWholeFields (fields l)) e h.whole).0;
+        no_missing = (subst (λ (l : List (List ℕ × Val)). PairsHaveNoMissing (fields l)) e h.no_missing).0;
         below = omega arith;
       }
 
@@ -70,7 +70,7 @@ module _ (old new : List ℕ) (later : Bool) (all left rest : List (List ℕ × 
       let small : fields_size (fields ((name, v) ∷ rest)) ≤ fields_size (fields all) = subst (λ (l : List (List ℕ × Val)). fields_size (fields l) ≤ fields_size (fields all)) e h.smaller in
       record {
         times = (subst (λ (l : List (List ℕ × Val)). PairsHaveTimesInRange (fields l)) e h.times).1;
-        whole = (subst (λ (l : List (List ℕ × Val)). HasWholeFields (fields l)) e h.whole).1;
+        no_missing = (subst (λ (l : List (List ℕ × Val)). PairsHaveNoMissing (fields l)) e h.no_missing).1;
         spells =
             ap (λ l. l ++ fields_text true (fields rest)) f ∙ regroup_pair new (comma_if later) (quoted name) (value_text v) (fields_text true (fields rest))
             ∙ ap (λ (l : List (List ℕ × Val)). new ++ fields_text later (fields l)) (sym e) ∙ h.spells;

@@ -1,12 +1,13 @@
-ghost use Rattle.std.specs.Prelude.{◌≡◌, [], ◌∷◌, ◌++◌, OnOk, OnErr, IfOk};
+ghost use Rattle.std.specs.Prelude.{◌≡◌, [], ◌∷◌, ◌++◌, OnOk, OnErr, IfOk, IsTrue, ◌↔◌};
 ghost use Rattle.answer_meaning.specs.Made.{Output};
 ghost use Rattle.answer_meaning.specs.Lines.{value_text, line_text};
 ghost use Rattle.ion_cells.specs.Shown.{Fits, shown};
 ghost use Rattle.json_out.specs.Begun.{begun, pair_text, pair_if_any, pair_text_if_any};
-ghost use Rattle.json_out.specs.Whole.{IsWhole, IsMissingOrWhole};
+ghost use Rattle.json_out.specs.NoMissing.{HasNoMissing, IsMissingAtMostAtTop};
 ghost use Rattle.block_meaning.specs.Laws.{HasTimesInRange};
 ghost use Rattle.snel_values.specs.View.{view};
 
+use crate::checks::has_text;
 use crate::owned::put_owned;
 use crate::texts::put_quoted;
 use crate::values::put_value;
@@ -58,7 +59,7 @@ fn put_cell_pair(
 /// Adds a pair of the name and the value, which isn't MISSING.
 fn put_value_pair(line: &mut Bytes, name: &str, value: &Value) -> Result<(), OutOfMemory>
     requires times { HasTimesInRange (view value.now) }
-    requires whole { IsWhole (view value.now) }
+    requires no_missing { HasNoMissing (view value.now) }
     ensures { OnOk result (line.new ≡ line.old ++ pair_text line.old name.now (value_text (view value.now))) }
 {
     begin_pair(line, name)?;
@@ -96,10 +97,22 @@ impl LineMaker {
         }
     }
 
-    /// Adds a pair of the name and the value, behind a comma where a pair stands before; with MISSING it adds nothing.
+    /// Whether `put_value` takes the value: each time in it lies from the year 1 to the year 9999, and MISSING stands at
+    /// most at its top.
+    pub fn takes(value: &Value) -> bool
+        ensures { IsTrue result ↔ HasTimesInRange (view value.now) × IsMissingAtMostAtTop (view value.now) }
+    {
+        match value {
+            Value::Missing => true,
+            _ => has_text(value),
+        }
+    }
+
+    /// Adds a pair of the name and the value, which it takes, behind a comma where a pair stands before; with MISSING it
+    /// adds nothing.
     pub fn put_value(&mut self, name: &str, value: &Value) -> Result<(), OutOfMemory>
         requires times { HasTimesInRange (view value.now) }
-        requires missing { IsMissingOrWhole (view value.now) }
+        requires missing { IsMissingAtMostAtTop (view value.now) }
         ensures ok { OnOk result (self.new ≡ self.old ++ pair_text_if_any self.old name.now (view value.now)) }
         ensures pairs { (output : Output) → self.old ≡ begun output → OnOk result (self.new ≡ begun (output ++ pair_if_any name.now (view value.now))) }
         ensures err { OnErr result (self.new ≡ []) }

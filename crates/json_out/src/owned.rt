@@ -1,23 +1,14 @@
 ghost use Rattle.std.specs.Prelude.{◌≡◌, ◌∷◌, ◌++◌, ◌+◌, ◌<◌, drop, length, OnOk};
-ghost use Rattle.std.specs.Fmt.{signed_decimal};
 ghost use Rattle.value_meaning.specs.Val.{list, struct, vals, fields};
 ghost use Rattle.block_meaning.specs.Laws.{HasTimesInRange, HaveTimesInRange, PairsHaveTimesInRange};
 ghost use Rattle.answer_meaning.specs.Lines.{comma_if, value_text};
 ghost use Rattle.snel_values.specs.View.{view};
-ghost use Rattle.json_out.specs.Whole.{IsWhole, AreWhole, HasWholeFields};
+ghost use Rattle.json_out.specs.NoMissing.{HasNoMissing, HaveNoMissing, PairsHaveNoMissing};
 
+use crate::numbers::put_number;
 use crate::texts::put_quoted;
 use crate::times::put_time;
-use itoa::Buffer;
 use snel_values::{Bytes, Items, OutOfMemory, Pairs, Value};
-
-/// Adds the number's decimal digits, behind a `-` where it is negative.
-fn put_wide(into: &mut Bytes, number: i128) -> Result<(), OutOfMemory>
-    ensures { OnOk result (into.new ≡ into.old ++ signed_decimal number) }
-{
-    let mut digits = Buffer::new();
-    into.push_all(digits.format(number).as_bytes())
-}
 
 /// Adds a comma, where something stands before.
 fn put_comma_if(into: &mut Bytes, later: bool) -> Result<(), OutOfMemory>
@@ -27,7 +18,7 @@ fn put_comma_if(into: &mut Bytes, later: bool) -> Result<(), OutOfMemory>
 }
 
 /// The name and the value at a place, counted from 0.
-fn pair_at(pairs: &Pairs, at: usize) -> (&str, &Value)
+pub(crate) fn pair_at(pairs: &Pairs, at: usize) -> (&str, &Value)
     requires { at < length pairs.now }
     ensures { drop at pairs.now ≡ (result.0.now, view result.1.now) ∷ drop (at + 1) pairs.now }
 {
@@ -44,7 +35,7 @@ fn pair_at(pairs: &Pairs, at: usize) -> (&str, &Value)
 #[cycle(owned)]
 pub(crate) fn put_owned(into: &mut Bytes, value: &Value) -> Result<(), OutOfMemory>
     requires times { HasTimesInRange (view value.now) }
-    requires whole { IsWhole (view value.now) }
+    requires no_missing { HasNoMissing (view value.now) }
     ensures { OnOk result (into.new ≡ into.old ++ value_text (view value.now)) }
 {
     match value {
@@ -52,7 +43,7 @@ pub(crate) fn put_owned(into: &mut Bytes, value: &Value) -> Result<(), OutOfMemo
         Value::Null => into.push_all(b"null"),
         Value::Bool(true) => into.push_all(b"true"),
         Value::Bool(false) => into.push_all(b"false"),
-        Value::Int(number) => put_wide(into, *number),
+        Value::Int(number) => put_number(into, *number),
         Value::Time(time) => put_time(into, *time),
         Value::Text(text) => put_quoted(into, text.as_str()),
         Value::List(items) => put_items(into, items),
@@ -64,7 +55,7 @@ pub(crate) fn put_owned(into: &mut Bytes, value: &Value) -> Result<(), OutOfMemo
 #[cycle(owned)]
 fn put_items(into: &mut Bytes, items: &Items) -> Result<(), OutOfMemory>
     requires times { HaveTimesInRange (vals items.now) }
-    requires whole { AreWhole (vals items.now) }
+    requires no_missing { HaveNoMissing (vals items.now) }
     ensures { OnOk result (into.new ≡ into.old ++ value_text (list (vals items.now))) }
 {
     into.push_all(b"[")?;
@@ -81,7 +72,7 @@ fn put_items(into: &mut Bytes, items: &Items) -> Result<(), OutOfMemory>
 #[cycle(owned)]
 fn put_pairs(into: &mut Bytes, pairs: &Pairs) -> Result<(), OutOfMemory>
     requires times { PairsHaveTimesInRange (fields pairs.now) }
-    requires whole { HasWholeFields (fields pairs.now) }
+    requires no_missing { PairsHaveNoMissing (fields pairs.now) }
     ensures { OnOk result (into.new ≡ into.old ++ value_text (struct (fields pairs.now))) }
 {
     into.push_all(b"{")?;

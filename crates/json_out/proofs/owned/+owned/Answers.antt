@@ -15,7 +15,7 @@ put_items-put_owned-requires t c =
     let w = item_within _ _ _ _ _ _ _ c.loop-item.invariant (drop_map view xs c.loop-item.item-index c.item-item.result h c.item-item.is) in
     let below = w.below in
     let same = ap (λ (l : List Val). vals_size (vals l)) c.as_slice-item-items.ensures in
-    (omega (arith, same, below, c.decreases), (w.times, w.whole))
+    (omega (arith, same, below, c.decreases), (w.times, w.no_missing))
 
 pub put_items-loop-item-preserved : goal.put_items-loop-item-preserved
 put_items-loop-item-preserved t c =
@@ -27,7 +27,7 @@ pub put_pairs-put_owned-requires : goal.put_pairs-put_owned-requires
 put_pairs-put_owned-requires t c =
     let w = pair_within _ _ _ _ _ _ _ _ c.loop-at.invariant c.pair_at.ensures in
     let below = w.below in
-    (omega (arith, below, c.decreases), (w.times, w.whole))
+    (omega (arith, below, c.decreases), (w.times, w.no_missing))
 
 pub put_pairs-loop-at-preserved : goal.put_pairs-loop-at-preserved
 put_pairs-loop-at-preserved t c =
