@@ -5,3 +5,6 @@ pub mod OfKind
 pub mod Going
 pub mod Rows
 pub mod MorePairs
+pub mod Members
+pub mod IfAny
+pub mod HavingTexts

@@ -1,9 +1,12 @@
 //! Lines out: rows as JSON objects (RFC 8259), written straight from their cells with no value built for a row.
 #![tactic(auto)]
 
+mod checks;
 mod clock;
 mod lines;
 mod maker;
+mod numbers;
+mod owned;
 mod texts;
 mod times;
 mod values;

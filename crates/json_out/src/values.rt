@@ -1,25 +1,16 @@
 ghost use Rattle.std.specs.Prelude.{◌≡◌, ◌++◌, OnOk};
-ghost use Rattle.std.specs.Fmt.{signed_decimal};
 ghost use Rattle.value_meaning.specs.Val.{list, struct, vals, fields};
 ghost use Rattle.answer_meaning.specs.Lines.{value_text};
 ghost use Rattle.ion_cells.specs.Standing.{HasLast};
 ghost use Rattle.ion_cells.specs.Shown.{Fits, shown};
 ghost use Rattle.ion_cells.specs.Iterating.{items_last, values_left, fields_last, pairs_left};
 
+use crate::numbers::put_number;
 use crate::texts::put_quoted;
 use crate::times::put_time;
 use ion_cells::{Cell, Cells, Fields, Kind};
 use ion_symtab::SymTab;
-use itoa::Buffer;
 use snel_values::{Bytes, OutOfMemory};
-
-/// Adds the number's decimal digits, behind a `-` where it is negative.
-fn put_number(into: &mut Bytes, number: i64) -> Result<(), OutOfMemory>
-    ensures { OnOk result (into.new ≡ into.old ++ signed_decimal number) }
-{
-    let mut digits = Buffer::new();
-    into.push_all(digits.format(number).as_bytes())
-}
 
 /// Adds the text of the cell's value.
 #[cycle(values)]

@@ -8,4 +8,4 @@ pub returns-in-Ok-clause-pairs : goal.returns-in-Ok-clause-pairs
 returns-in-Ok-clause-pairs c =
     λ output e.
     let f : c.self.inside.line ≡ begun output = cc in
-    pair_added c.self.inside.line c.put_pair.new.line output c.args.name.now (shown c.args.table.now c.args.cell.now) c.in-Ok.ensures f
+    pair_added c.self.inside.line c.put_cell_pair.new.line output c.args.name.now (shown c.args.table.now c.args.cell.now) c.in-Ok.ensures f
