@@ -1,0 +1,7 @@
+//! Reading queries.
+#![tactic(auto)]
+
+mod fault;
+mod look;
+mod steps;
+mod whole;
