@@ -14,3 +14,6 @@ mod whole;
 
 pub use reading::read;
 pub use sql_fault::SqlFault;
+
+#[cfg(test)]
+mod fault_tests;
