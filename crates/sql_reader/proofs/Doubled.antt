@@ -14,6 +14,9 @@ pub other : (q b : ℕ) (bs : List ℕ) → (b == q) ≡ false → undoubled q (
 other q b [] e = refl
 other q b (c ∷ bs) e = rw e refl
 
+pub dropped : (q b : ℕ) (bs : List ℕ) → (b == q) ≡ true → left q true (b ∷ bs) ≡ left q false bs
+dropped q b bs e = rw e refl
+
 pub first_quote : (q b : ℕ) (bs : List ℕ) → (b == q) ≡ true → undoubled q (b ∷ bs) ≡ b ∷ left q true bs
 first_quote q b [] e = refl
 first_quote q b (c ∷ bs) e = rw e (go (c == q))

@@ -1,3 +1,4 @@
 pub mod Places
 pub mod Doubled
 pub mod Loops
+pub mod Kept
