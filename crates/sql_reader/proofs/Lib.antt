@@ -2,3 +2,4 @@ pub mod Places
 pub mod Doubled
 pub mod Loops
 pub mod Kept
+pub mod MadeForms
