@@ -3,3 +3,5 @@ pub mod Doubled
 pub mod Loops
 pub mod Kept
 pub mod MadeForms
+pub mod Shortened
+pub mod Wholly

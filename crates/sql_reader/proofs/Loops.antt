@@ -6,6 +6,9 @@ use Rattle.query_meaning.specs.BinOp.{BinOp}
 use Rattle.query_meaning.specs.declared.Level.{Level}
 use Rattle.query_meaning.specs.Tree.{Step, Ex, bin, Arms, no_arms, arm, arms}
 use Rattle.query_meaning.specs.Tokens.{Toks}
+use Rattle.sql_reader.specs.declared.fault.ParseFault.{ParseFault}
+use Rattle.sql_reader.specs.declared.fault.ParseFault.TheVariants as fault
+use Rattle.sql_reader.specs.Gives.{Fails}
 use Rattle.query_meaning.specs.Reading.{after, operator_at, step_at, steps_at, Reader, more_by, whens_by, list_by}
 
 -- what is read stands behind these
@@ -83,3 +86,16 @@ module _ (room turn : ℕ) (h : turn < room) (f : Reader Ex) (read : Armed) (fro
 
   pub whens_go_on : (q : Toks) → Some q ≡ after m.When behind → read ≡ option_map (behind_arms (front ++ (a, b) ∷ [])) (whens_by f (room - (turn + 1)) behind)
   whens_go_on q e = rw (sofar, next room turn h, when, first, then, second, ← e) (regroup_arms front a b (whens_by f (room - (turn + 1)) behind))
+
+-- want of a form within an arm
+module _ (room turn : ℕ) (h : turn < room) (f : Reader Ex) (read : Armed) (front : List (Ex × Ex)) (rest r s t : Toks) (a : Ex) (sofar : read ≡ option_map (behind_arms front) (whens_by f (room - turn) rest)) (when : after m.When rest ≡ Some r) (first : f r ≡ Some (a, s)) where
+  pub no_then : after m.Then s ≡ None → read ≡ None
+  no_then e = sofar ∙ (rw (next room turn h, when, first, e) refl)
+
+  pub no_value : after m.Then s ≡ Some t → f t ≡ None → read ≡ None
+  no_value e g = sofar ∙ (rw (next room turn h, when, first, e, g) refl)
+
+-- a fault that a call handed on
+pub handed_on : {X Y : Type 0} (e : ParseFault) (o : Option X) (read : Option Y) → Fails e o → (o ≡ None → read ≡ None) → Fails e read
+handed_on fault.NotAQuery o read h go = go h
+handed_on fault.OutOfMemory o read h go = tt

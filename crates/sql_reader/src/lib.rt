@@ -2,6 +2,7 @@
 #![tactic(auto)]
 
 mod calls;
+mod clauses;
 mod fault;
 mod functions;
 mod heads;
@@ -12,7 +13,11 @@ mod parse;
 mod paths;
 mod quotes;
 mod steps;
+mod strip;
+mod strip_path;
+mod strip_query;
 mod tails;
 mod whole;
+mod window;
 mod words;
 mod wraps;

@@ -60,7 +60,8 @@ fn chain(
             return Ok((left, rest));
         };
         let (right, behind) = operand(alloc, level, room, looks, next)?;
-        left = wraps::binary(alloc, op, left, right)?;
+        let both = wraps::binary(alloc, op, left, right)?;
+        left = both;
         rest = behind;
     }
     Err(ParseFault::NotAQuery)
