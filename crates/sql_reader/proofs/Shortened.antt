@@ -1,18 +1,26 @@
 -- Taking the row's name off paths, and lists item by item.
-use Rattle.std.proofs.Common.{◌≡◌, ℕ, zero, suc, ◌+◌, ◌<◌, List, [], ◌∷◌, ◌++◌, length, drop, map, Option, Some, None, Bool, true, false, cond, refl, sym, ap, ◌∙◌, arith, add-one, append_assoc}
+use Rattle.std.proofs.Common.{◌≡◌, ℕ, zero, suc, ◌+◌, ◌<◌, ◌≤◌, List, [], ◌∷◌, ◌++◌, length, drop, map, Option, Some, None, Bool, true, false, cond, refl, sym, ap, ◌∙◌, arith, add-one, append_assoc}
 use Rattle.std.specs.Prelude.{slice_get}
 use Rattle.std.specs.Str.{bytes_eq}
-use Rattle.query_meaning.specs.Tree.{Step, name, at, Ex, Exs, ex, Arms, arm, size, exs, exs_size, arms, arms_size}
+use Rattle.query_meaning.specs.Tree.{name, Ex, Exs, ex, Arms, arm, size, exs, exs_size, arms, arms_size}
 use Rattle.query_meaning.specs.RowName.{short_path, short, short_exs, short_arms}
-use Rattle.sql_reader.specs.RowPaths.{begins_with}
+use Rattle.std.specs.Option.{option_map}
+use Rattle.snel_values.specs.declared.steps.Step.{Step as StepCode}
+use Rattle.snel_values.specs.declared.steps.Step.TheVariants as of
+use Rattle.sql_tree.specs.View.{step_view}
+use Rattle.sql_reader.specs.RowPaths.{name_step, skipped}
 
-pub short_path-is : (row : List ℕ) (ss : List Step) → short_path row ss ≡ cond (begins_with row ss) (drop 1 ss) ss
+pub short_steps-is : (row : List ℕ) (xs : List StepCode) → short_path row (map step_view xs) ≡ drop (skipped row (name_step (option_map step_view (slice_get xs 0))) (name_step (option_map step_view (slice_get xs 1)))) (map step_view xs)
 unfolding short_path
-short_path-is row [] = refl
-short_path-is row (at i ∷ ss) = refl
-short_path-is row (name n ∷ []) = refl
-short_path-is row (name n ∷ at i ∷ ss) = refl
-short_path-is row (name n ∷ name k ∷ ss) = refl
+short_steps-is row [] = refl
+short_steps-is row (of.At i ∷ ss) = refl
+short_steps-is row (of.Name n ∷ []) = refl
+short_steps-is row (of.Name n ∷ of.At i ∷ ss) = refl
+short_steps-is row (of.Name n ∷ of.Name k ∷ ss) = go (bytes_eq n row)
+  where
+    go : (b : Bool) → cond b (name k ∷ map step_view ss) (name n ∷ name k ∷ map step_view ss) ≡ drop (cond b 1 0) (name n ∷ name k ∷ map step_view ss)
+    go true = refl
+    go false = refl
 
 -- what is left begins with the item at the place
 item_at : {A B : Type 0} (f : A → B) (xs : List A) (i : ℕ) (x : A) → slice_get xs i ≡ Some x → drop i (map f xs) ≡ f x ∷ drop (suc i) (map f xs)
@@ -41,12 +49,6 @@ one_more_view f xs all read i x y sofar e same = sofar ∙ (rw (item_at f xs i x
 -- one item more, of the images of a list
 pub one_more_image : {A B : Type 0} (f : A → B) (xs : List A) (all read : List B) (i : ℕ) (x : A) (y : B) → read ≡ all ++ drop i (map f xs) → slice_get xs i ≡ Some x → y ≡ f x → read ≡ (all ++ y ∷ []) ++ drop (i + 1) (map f xs)
 one_more_image f xs all read i x y sofar e same = sofar ∙ (rw (item_at f xs i x e, same, add-one) (sym (append_assoc all (f x ∷ []) (drop (suc i) (map f xs)))))
-
-pub none_left : {A : Type 0} (xs : List A) (i : ℕ) → length xs ≤ i → drop i xs ≡ []
-none_left [] zero h = refl
-none_left [] (suc i) h = refl
-none_left (x ∷ xs) zero h = absurd (omega arith)
-none_left (x ∷ xs) (suc i) h = none_left xs i (omega arith)
 
 pub ended : {A : Type 0} (xs : List A) → xs ++ [] ≡ xs
 ended [] = refl

@@ -19,3 +19,12 @@ short_arms-loop-at-preserved t c = rw c.in_ok-push.ensures.ok (one_more_image (s
 
 pub short_arms-returns : goal.short_arms-returns
 short_arms-returns t c = ap arms (finished (short_pair c.args.row.now) c.args.list.now c.loop-at.all _ c.loop-at.at c.loop-at.invariant (omega arith)) ∙ arms_short c.args.row.now c.args.list.now
+
+pub short_exprs-short-requires : goal.short_exprs-short-requires
+short_exprs-short-requires t c = let s = smaller c.args.list.now c.loop-at.at (view c.in-Some.one.now) (sym c.in-Some.ensures) in omega (arith, s)
+
+pub short_arms-short-requires : goal.short_arms-short-requires
+short_arms-short-requires t c = let s = smaller_arm c.args.list.now c.loop-at.at (arm_view c.in-Some.arm.now) (sym c.in-Some.ensures) in omega (arith, s.0)
+
+pub short_arms-short-requires-in-loop-at : goal.short_arms-short-requires-in-loop-at
+short_arms-short-requires-in-loop-at t c = let s = smaller_arm c.args.list.now c.loop-at.at (arm_view c.in-Some.arm.now) (sym c.in-Some.ensures) in omega (arith, s.1)
