@@ -1,6 +1,9 @@
 use Rattle.std.proofs.Common.{◌≡◌, ◌+◌, arith, length, suc, Some, sym, ap, ◌∙◌}
 use Rattle.std.proofs.lemmas.List.{length-map}
+use Rattle.std.proofs.lemmas.Result.{err_from_is_err_and}
 use Rattle.query_meaning.specs.Tree.{Query}
+use Rattle.query_meaning.specs.Reading.{query_of}
+use Rattle.sql_reader.specs.Stages.{written_in}
 use Rattle.sql_reader.specs.Seen.{toks, seen}
 use Rattle.sql_tree.specs.Queries.{query_view}
 use Rattle.sql_reader.proofs.Loops.{handed_on}
@@ -15,4 +18,5 @@ returns c =
 pub returns-in_err-written : goal.returns-in_err-written
 returns-in_err-written c =
     let ts = toks c.args.looks.now in
-    handed_on _ _ _ c.in_err-written.ensures (no_query ts (length c.args.looks.now + 1) (simp length-map (omega arith)))
+    let p = err_from_is_err_and c.from_residual.result c.from_residual.ensures.1 in
+    rw (p.1, p.2) (handed_on c.in_err-written.field-0.0 (written_in (length c.args.looks.now + 1) ts) (query_of ts) c.in_err-written.ensures (no_query ts (length c.args.looks.now + 1) (simp length-map (omega arith))))
