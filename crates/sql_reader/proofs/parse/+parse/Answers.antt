@@ -1,13 +1,10 @@
-use Rattle.std.proofs.Common.{◌≡◌, drop, arith, sym, ap, ◌∙◌, Some, None}
-use Rattle.std.specs.Option.{option_map}
+use Rattle.std.proofs.Common.{drop, arith}
 use Rattle.std.proofs.lemmas.Result.{err_from_is_err_and}
 use Rattle.sql_reader.specs.Seen.{toks}
-use Rattle.sql_reader.specs.Gives.{Fails}
 use Rattle.sql_tree.specs.View.{view}
 use Rattle.sql_tree.specs.Names.{op_view}
-use Rattle.query_meaning.specs.Reading.{after, whens_by, operand_by, prim_by, pred_by, sum_by, expr_at}
+use Rattle.query_meaning.specs.Reading.{after, whens_by, operand_by, expr_at}
 use Rattle.query_meaning.specs.declared.Mark.TheVariants as m
-use Rattle.query_meaning.specs.Tree.{neg, no}
 use Rattle.query_meaning.proofs.Steps.{prefixed-times}
 use Rattle.sql_reader.proofs.Loops.{chain_stops, chain_goes_on, list_goes_on, list_stops, whens_stop, whens_go_on, no_then, no_value, handed_on}
 use Rattle.sql_reader.proofs.parse.+parse.Goals as goal

@@ -1,6 +1,6 @@
 use Rattle.std.proofs.lemmas.Bool.Decides.{eqb_tells}
-use Rattle.std.proofs.Common.{◌≡◌, ◌==◌, ⊎_elim, ℕ, ◌++◌, true, false, get_or, arith}
-use Rattle.sql_reader.proofs.Doubled.{left, leaves_out, keeps_first, keeps_other}
+use Rattle.std.proofs.Common.{◌≡◌, ◌==◌, ⊎_elim, ℕ, false}
+use Rattle.sql_reader.proofs.Doubled.{leaves_out, keeps_first, keeps_other}
 use Rattle.sql_reader.proofs.quotes.undoubled_bytes.Goals.{then-held+then-is_quote, else-held+in_ok-push, else-held-via-then-held+else-is_quote, else-held-via-else-held}
 use Rattle.sql_reader.proofs.quotes.undoubled_bytes.Goals as goal
 
