@@ -69,7 +69,10 @@ pub(crate) fn short(alloc: Global, row: &str, of: &Expr) -> Result<Expr, OutOfMe
             count: short_operand(alloc, row, count)?,
             of: short_operand(alloc, row, of)?,
         }),
-        Expr::Agg { name, of: None } => Ok(Expr::Agg { name: *name, of: None }),
+        Expr::Agg { name, of: None } => Ok(Expr::Agg {
+            name: *name,
+            of: None,
+        }),
         Expr::Agg { name, of: Some(of) } => Ok(Expr::Agg {
             name: *name,
             of: Some(short_operand(alloc, row, of)?),

@@ -1,12 +1,10 @@
-use Rattle.std.proofs.Common.{◌≡◌, drop, arith, sym, ap, ◌∙◌, Some, None}
-use Rattle.std.specs.Option.{option_map}
+use Rattle.std.proofs.Common.{drop, arith}
+use Rattle.std.proofs.lemmas.Result.{err_from_is_err_and}
 use Rattle.sql_reader.specs.Seen.{toks}
-use Rattle.sql_reader.specs.Gives.{Fails}
 use Rattle.sql_tree.specs.View.{view}
 use Rattle.sql_tree.specs.Names.{op_view}
-use Rattle.query_meaning.specs.Reading.{operand_by, prim_by, pred_by, sum_by, expr_at}
+use Rattle.query_meaning.specs.Reading.{after, whens_by, operand_by, expr_at}
 use Rattle.query_meaning.specs.declared.Mark.TheVariants as m
-use Rattle.query_meaning.specs.Tree.{neg, no}
 use Rattle.query_meaning.proofs.Steps.{prefixed-times}
 use Rattle.sql_reader.proofs.Loops.{chain_stops, chain_goes_on, list_goes_on, list_stops, whens_stop, whens_go_on, no_then, no_value, handed_on}
 use Rattle.sql_reader.proofs.parse.+parse.Goals as goal
@@ -45,14 +43,15 @@ pub whens-returns-in_err-then : goal.whens-returns-in_err-then
 whens-returns-in_err-then t c =
     let ts = toks c.args.looks.now in
     let room = c.args.room in
-    let f = c.in_err-then.ensures in
-    let g = c.in_err-then in
-    ?
+    let p = err_from_is_err_and c.from_residual-in_err-then.result c.from_residual-in_err-then.ensures.1 in
+    rw (p.1, p.2) (handed_on c.in_err-then.field-0.0 (after m.Then (drop c.in_ok-test.next ts)) (whens_by (expr_at room) room (drop c.args.at ts)) c.in_err-then.ensures (no_then room c.loop-turn._turn (omega arith) (expr_at room) _ c.loop-turn.all (drop c.loop-turn.rest ts) (drop c.in_ok-when.when ts) (drop c.in_ok-test.next ts) ts (view c.in_ok-test.test) c.loop-turn.invariant c.in_ok-when.ensures c.in_ok-test.ensures))
 
 pub whens-returns-in_err-value : goal.whens-returns-in_err-value
 whens-returns-in_err-value t c =
-    let f = c.in_err-value.ensures in
-    ?
+    let ts = toks c.args.looks.now in
+    let room = c.args.room in
+    let p = err_from_is_err_and c.from_residual-in_err-value.result c.from_residual-in_err-value.ensures.1 in
+    rw (p.1, p.2) (handed_on c.in_err-value.field-0.0 (expr_at room (drop c.in_ok-then.then ts)) (whens_by (expr_at room) room (drop c.args.at ts)) c.in_err-value.ensures (no_value room c.loop-turn._turn (omega arith) (expr_at room) _ c.loop-turn.all (drop c.loop-turn.rest ts) (drop c.in_ok-when.when ts) (drop c.in_ok-test.next ts) (drop c.in_ok-then.then ts) (view c.in_ok-test.test) c.loop-turn.invariant c.in_ok-when.ensures c.in_ok-test.ensures c.in_ok-then.ensures))
 
 pub whens-returns-in_default : goal.whens-returns-in_default
 whens-returns-in_default t c =

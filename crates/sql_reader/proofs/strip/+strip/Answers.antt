@@ -1,8 +1,8 @@
-use Rattle.std.proofs.Common.{◌≡◌, arith, sym, ap, ◌∙◌, map}
+use Rattle.std.proofs.Common.{arith, sym, ap, ◌∙◌}
 use Rattle.query_meaning.specs.RowName.{short}
 use Rattle.query_meaning.specs.Tree.{exs, arms}
 use Rattle.sql_tree.specs.View.{view, arm_view}
-use Rattle.sql_reader.proofs.Shortened.{one_more_image, nothing_at, finished, pair_is, short_pair, exs_short, arms_short, smaller, smaller_arm}
+use Rattle.sql_reader.proofs.Shortened.{one_more_image, finished, pair_is, short_pair, exs_short, arms_short, smaller, smaller_arm}
 use Rattle.sql_reader.proofs.strip.+strip.Goals as goal
 
 pub short_exprs-loop-at-preserved : goal.short_exprs-loop-at-preserved
