@@ -1,0 +1,11 @@
+pub mod Places
+pub mod Finds
+pub mod Slices
+pub mod Depths
+pub mod Answered
+pub mod Doubled
+pub mod Loops
+pub mod Kept
+pub mod MadeForms
+pub mod Shortened
+pub mod Wholly
