@@ -1,12 +1,12 @@
 -- Steps of the loops over steps, expressions and arms.
-use Rattle.std.proofs.Common.{◌≡◌, ℕ, zero, suc, ◌+◌, ◌<◌, List, [], ◌∷◌, ◌++◌, map, drop, Option, Some, None, refl, sym, ◌∙◌, ap, add-one, append_assoc, arith}
+use Rattle.std.proofs.Common.{◌≡◌, ℕ, zero, suc, ◌+◌, ◌<◌, Bool, true, false, cond, List, [], ◌∷◌, ◌++◌, map, drop, Option, Some, None, refl, sym, ◌∙◌, ap, add-one, append_assoc, arith}
 use Rattle.std.specs.Prelude.{slice_get, unwrap_or}
 use Rattle.std.specs.Option.{option_map}
 use Rattle.value_meaning.specs.Val.{Val, missing, list, struct, vals, fields}
 use Rattle.value_meaning.specs.Pairs.{value_of}
 use Rattle.value_meaning.proofs.Chains.{items-vals, pairs-fields}
 use Rattle.query_meaning.specs.Tree.{Step, name, at, Ex, size, exs, exs_size, arms, arms_size}
-use Rattle.eval_meaning.specs.Logic.{choice_of}
+use Rattle.eval_meaning.specs.Logic.{choice_of, is_true}
 use Rattle.eval_meaning.specs.Paths.{step_of, path_of}
 use Rattle.eval_meaning.specs.Evaluation.{eval, evals, choices}
 
@@ -56,3 +56,22 @@ pub test_is_smaller : (xs : List (Ex × Ex)) (i : ℕ) (x : Ex × Ex) → slice_
 test_is_smaller [] i x h = cc
 test_is_smaller (y ∷ ys) zero x h = (let w : y ≡ x = cc in rw w (omega arith))
 test_is_smaller (y ∷ ys) (suc i) x h = omega (arith, test_is_smaller ys i x h)
+
+chosen : (b : Bool) (v later : Val) → b ≡ true → cond b v later ≡ v
+chosen true v later h = refl
+chosen false v later h = cc
+
+passed_by : (b : Bool) (v later : Val) → b ≡ false → cond b v later ≡ later
+passed_by true v later h = cc
+passed_by false v later h = refl
+
+-- an arm whose test is true, behind arms whose tests aren't
+pub arm_holds : (xs : List (Ex × Ex)) (i : ℕ) (x : Ex × Ex) (row other test : Val) → slice_get xs i ≡ Some x → test ≡ eval x.0 row → is_true test ≡ true
+    → choices (arms (drop i xs)) row other ≡ choices (arms xs) row other → choices (arms xs) row other ≡ eval x.1 row
+arm_holds xs i x row other test h e t all =
+    sym all ∙ arms_go_on xs i x row other h ∙ chosen (is_true (eval x.0 row)) (eval x.1 row) (choices (arms (drop (i + 1) xs)) row other) (rw (← e) t)
+
+pub arm_fails : (xs : List (Ex × Ex)) (i : ℕ) (x : Ex × Ex) (row other test : Val) → slice_get xs i ≡ Some x → test ≡ eval x.0 row → is_true test ≡ false
+    → choices (arms (drop i xs)) row other ≡ choices (arms xs) row other → choices (arms (drop (i + 1) xs)) row other ≡ choices (arms xs) row other
+arm_fails xs i x row other test h e t all =
+    sym (passed_by (is_true (eval x.0 row)) (eval x.1 row) (choices (arms (drop (i + 1) xs)) row other) (rw (← e) t)) ∙ sym (arms_go_on xs i x row other h) ∙ all
