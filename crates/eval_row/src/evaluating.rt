@@ -51,7 +51,7 @@ fn call_of(alloc: Global, name: Func, values: &[Value]) -> Result<Value, OutOfMe
     match (name, values) {
         (Func::Coalesce, _) => coalesce(alloc, values),
         (Func::NullIf, [a, b]) => Ok(null_if(a.copy(alloc)?, b)),
-        (Func::CharLength, [a]) => char_length(a),
+        (Func::CharLength, [a]) => char_length(alloc, a),
         (Func::UnixEpoch, [a]) => unix_epoch(a),
         (Func::UnixMicro, [a]) => unix_micro(a),
         _ => Ok(Value::Missing),
@@ -141,7 +141,7 @@ pub fn eval_row(alloc: Global, expr: &Expr, row: &Value) -> Result<Value, OutOfM
         Expr::Case { arms, other } => eval_case(alloc, arms, other, row),
         Expr::Cast { of, to } => {
             let value = eval_operand(alloc, of, row)?;
-            cast_of(*to, &value)
+            Ok(cast_of(*to, &value))
         }
         Expr::Call { name, args } => {
             let values = eval_list(alloc, args, row)?;
