@@ -52,8 +52,8 @@ fn call_of(alloc: Global, name: Func, values: &[Value]) -> Result<Value, OutOfMe
         (Func::Coalesce, _) => coalesce(alloc, values),
         (Func::NullIf, [a, b]) => Ok(null_if(a.copy(alloc)?, b)),
         (Func::CharLength, [a]) => char_length(alloc, a),
-        (Func::UnixEpoch, [a]) => unix_epoch(a),
-        (Func::UnixMicro, [a]) => unix_micro(a),
+        (Func::UnixEpoch, [a]) => Ok(unix_epoch(a)),
+        (Func::UnixMicro, [a]) => Ok(unix_micro(a)),
         _ => Ok(Value::Missing),
     }
 }
@@ -149,16 +149,16 @@ pub fn eval_row(alloc: Global, expr: &Expr, row: &Value) -> Result<Value, OutOfM
         }
         Expr::Trunc { part, of } => {
             let value = eval_operand(alloc, of, row)?;
-            trunc_of(*part, &value)
+            Ok(trunc_of(*part, &value))
         }
         Expr::Extract { part, of } => {
             let value = eval_operand(alloc, of, row)?;
-            extract_of(*part, &value)
+            Ok(extract_of(*part, &value))
         }
         Expr::Shift { part, count, of } => {
             let count = eval_operand(alloc, count, row)?;
             let value = eval_operand(alloc, of, row)?;
-            shift_of(*part, &count, &value)
+            Ok(shift_of(*part, &count, &value))
         }
         Expr::Agg { .. } => Ok(Value::Missing),
     }

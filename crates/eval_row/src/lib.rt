@@ -1,6 +1,7 @@
 //! The value of an expression on a row, one row at a time: plain and slow, to compare other ways with.
 #![tactic(auto)]
 
+mod calendar;
 mod casts;
 mod comparing;
 mod evaluating;

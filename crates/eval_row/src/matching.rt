@@ -1,4 +1,4 @@
-ghost use Rattle.std.specs.Prelude.{◌≡◌, IfOk, map};
+ghost use Rattle.std.specs.Prelude.{◌≡◌, ◌==◌, ◌||◌, IfOk, map};
 ghost use Rattle.std.specs.Str.{chars};
 ghost use Rattle.std.specs.Char.{to_ascii_lowercase};
 ghost use Rattle.snel_values.specs.View.{view};
@@ -9,6 +9,7 @@ use snel_values::{How, OutOfMemory, Value};
 use std::alloc::Global;
 
 /// The characters of a text.
+#[tactic(auto, using(std::proofs::lemmas::Str::chars_from_encodes))]
 fn characters(alloc: Global, text: &str) -> Result<Vec<char>, OutOfMemory>
     ensures { IfOk result (λ v. v.items ≡ chars text.now) }
 {
@@ -21,6 +22,13 @@ fn lowered(alloc: Global, text: &str) -> Result<Vec<char>, OutOfMemory>
 {
     let characters = characters(alloc, text)?;
     Ok(characters.iter().map(|c| c.to_ascii_lowercase()).collect(alloc)?)
+}
+
+/// Whether a sign of a pattern other than `%` stands for the character.
+fn stands_for(sign: char, character: char) -> bool
+    ensures { result ≡ (sign == 95 || sign == character) }
+{
+    sign == '_' || sign == character
 }
 
 /// Whether the text or a suffix of it matches the pattern.
@@ -48,7 +56,7 @@ fn likes(pattern: &[char], text: &[char]) -> bool
             } else {
                 match text {
                     [] => false,
-                    [first, rest @ ..] => (*sign == '_' || sign == first) && likes(later, rest),
+                    [first, rest @ ..] => stands_for(*sign, *first) && likes(later, rest),
                 }
             }
         }
