@@ -89,13 +89,12 @@ fn moved(part: Part, count: i128, time: i64) -> Value
     }
 }
 
-/// The time plus so many of a length of 1 to 604,800,000,000 microseconds, MISSING out of range.
+/// The time plus so many of a length in microseconds, MISSING out of range.
 fn moved_by(length: u64, count: i128, time: i64) -> Value
-    requires { 0 < length }
     ensures { view result ≡ spec.moved (Some length) count time }
 {
     match count.checked_mul(i128::from(length)) {
-        Some(distance) => match distance.checked_add(i128::from(time)) {
+        Some(distance) => match i128::from(time).checked_add(distance) {
             Some(moment) => timed(moment),
             None => Value::Missing,
         },
