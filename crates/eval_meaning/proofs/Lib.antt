@@ -1,2 +1,3 @@
 pub mod LikesExact
 pub mod Division
+pub mod Multiples

@@ -9,4 +9,5 @@ pub mod Times
 pub mod Paths
 pub mod Evaluation
 pub mod Passed
+pub mod Starts
 pub mod Laws

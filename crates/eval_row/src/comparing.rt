@@ -79,9 +79,5 @@ pub(crate) fn null_if(a: Value, b: &Value) -> Value
     ensures { view result ≡ spec.null_if (view a) (view b.now) }
 {
     let same = compare(BinOp::Eq, &a, b);
-    if is_true(&same) {
-        Value::Null
-    } else {
-        a
-    }
+    if is_true(&same) { Value::Null } else { a }
 }

@@ -123,13 +123,7 @@ pub(crate) fn first_of(a: Value, b: Value) -> Value
 {
     match a {
         Value::Missing => b,
-        Value::Null => {
-            if is_missing(&b) {
-                Value::Null
-            } else {
-                b
-            }
-        }
+        Value::Null => { if is_missing(&b) { Value::Null } else { b } }
         present => present,
     }
 }

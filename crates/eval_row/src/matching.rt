@@ -21,7 +21,12 @@ fn lowered(alloc: Global, text: &str) -> Result<Vec<char>, OutOfMemory>
     ensures { IfOk result (λ v. v.items ≡ map to_ascii_lowercase (chars text.now)) }
 {
     let characters = characters(alloc, text)?;
-    Ok(characters.iter().map(|c| c.to_ascii_lowercase()).collect(alloc)?)
+    Ok(
+        characters
+            .iter()
+            .map(|c| c.to_ascii_lowercase())
+            .collect(alloc)?,
+    )
 }
 
 /// Whether a sign of a pattern other than `%` stands for the character.

@@ -94,9 +94,34 @@ fn row(alloc: Global, a: Value, b: Value) -> Result<Value, OutOfMemory> {
     Ok(Value::Struct(pairs))
 }
 
-/// Whether the expression has the value on the row.
-fn gives(alloc: Global, expr: Expr, row: &Value, value: Value) -> Result<bool, OutOfMemory> {
-    let made = eval_row(alloc, &expr, row)?;
+/// The rows `{"a":1,"b":"x"}`, `{"a":null}` and `{"b":7}`.
+fn rows(alloc: Global) -> Result<Items, OutOfMemory> {
+    let mut rows = Items::new(alloc);
+    rows.push(row(alloc, Value::Int(1), text(alloc, "x")?)?)?;
+    rows.push(row(alloc, Value::Null, Value::Missing)?)?;
+    rows.push(row(alloc, Value::Missing, Value::Int(7))?)?;
+    Ok(rows)
+}
+
+/// Whether the expression has the values on the rows.
+fn gives(
+    alloc: Global,
+    expr: &Expr,
+    rows: &[Value],
+    values: &[Value],
+) -> Result<bool, OutOfMemory> {
+    for (row, value) in rows.iter().zip(values) {
+        let made = eval_row(alloc, expr, row)?;
+        if !same(&made, value) {
+            return Ok(false);
+        }
+    }
+    Ok(rows.len() == values.len())
+}
+
+/// Whether the expression has the value on any row.
+fn is_always(alloc: Global, expr: &Expr, value: Value) -> Result<bool, OutOfMemory> {
+    let made = eval_row(alloc, expr, &Value::Null)?;
     Ok(same(&made, &value))
 }
 
@@ -109,21 +134,19 @@ fn stands(alloc: Global) -> Result<Expr, OutOfMemory> {
 
 #[test]
 fn tells_null_and_missing_apart(rt: HostRuntime) -> Result<(), Fail> {
-    let alloc = rt.alloc();
-    let one = row(alloc, Value::Int(1), text(alloc, "x")?)?;
-    let null = row(alloc, Value::Null, Value::Missing)?;
-    let none = row(alloc, Value::Missing, Value::Int(7))?;
-    assert!(rt; gives(alloc, stands(alloc)?, &one, Value::Bool(true))?);
-    assert!(rt; gives(alloc, stands(alloc)?, &null, Value::Bool(false))?);
-    assert!(rt; gives(alloc, stands(alloc)?, &none, Value::Bool(false))?);
-    let next = binary(alloc, BinOp::Add, field(alloc, "b")?, number(1))?;
-    assert!(rt; gives(alloc, next, &one, Value::Missing)?);
-    let next = binary(alloc, BinOp::Add, field(alloc, "b")?, number(1))?;
-    assert!(rt; gives(alloc, next, &null, Value::Missing)?);
-    let next = binary(alloc, BinOp::Add, field(alloc, "b")?, number(1))?;
-    assert!(rt; gives(alloc, next, &none, Value::Int(8))?);
-    let large = binary(alloc, BinOp::Add, field(alloc, "a")?, number(9223372036854775807))?;
-    assert!(rt; gives(alloc, large, &one, Value::Missing)?);
+    let rows = rows(rt.alloc())?;
+    let expr = stands(rt.alloc())?;
+    let values = [Value::Bool(true), Value::Bool(false), Value::Bool(false)];
+    assert!(rt; gives(rt.alloc(), &expr, rows.as_slice(), &values)?);
+    Ok(())
+}
+
+#[test]
+fn adds_to_numbers_alone(rt: HostRuntime) -> Result<(), Fail> {
+    let rows = rows(rt.alloc())?;
+    let expr = binary(rt.alloc(), BinOp::Add, field(rt.alloc(), "b")?, number(1))?;
+    let values = [Value::Missing, Value::Missing, Value::Int(8)];
+    assert!(rt; gives(rt.alloc(), &expr, rows.as_slice(), &values)?);
     Ok(())
 }
 
@@ -131,83 +154,84 @@ fn tells_null_and_missing_apart(rt: HostRuntime) -> Result<(), Fail> {
 fn chosen(alloc: Global) -> Result<Expr, OutOfMemory> {
     let mut arms = Arms::new(alloc);
     let test = binary(alloc, BinOp::Eq, field(alloc, "a")?, number(1))?;
-    arms.push(Arm {
-        test,
-        value: number(10),
-    })?;
+    let value = number(10);
+    arms.push(Arm { test, value })?;
     let test = not(alloc, is(alloc, field(alloc, "a")?, IsWhat::Missing)?)?;
-    arms.push(Arm {
-        test,
-        value: number(20),
-    })?;
+    let value = number(20);
+    arms.push(Arm { test, value })?;
     let other = Operand::new(alloc, Expr::Lit(Value::Null))?;
     Ok(Expr::Case { arms, other })
 }
 
 #[test]
 fn chooses_the_first_arm_that_is_true(rt: HostRuntime) -> Result<(), Fail> {
-    let alloc = rt.alloc();
-    let one = row(alloc, Value::Int(1), text(alloc, "x")?)?;
-    let null = row(alloc, Value::Null, Value::Missing)?;
-    let none = row(alloc, Value::Missing, Value::Int(7))?;
-    assert!(rt; gives(alloc, chosen(alloc)?, &one, Value::Int(10))?);
-    assert!(rt; gives(alloc, chosen(alloc)?, &null, Value::Int(20))?);
-    assert!(rt; gives(alloc, chosen(alloc)?, &none, Value::Null)?);
+    let rows = rows(rt.alloc())?;
+    let expr = chosen(rt.alloc())?;
+    let values = [Value::Int(10), Value::Int(20), Value::Null];
+    assert!(rt; gives(rt.alloc(), &expr, rows.as_slice(), &values)?);
     Ok(())
 }
 
 #[test]
 fn divides_towards_zero(rt: HostRuntime) -> Result<(), Fail> {
-    let alloc = rt.alloc();
-    let any = Value::Null;
-    let quotient = binary(alloc, BinOp::Div, minus(alloc, 7)?, number(2))?;
-    assert!(rt; gives(alloc, quotient, &any, Value::Int(-3))?);
-    let rest = binary(alloc, BinOp::Rem, minus(alloc, 7)?, number(2))?;
-    assert!(rt; gives(alloc, rest, &any, Value::Int(-1))?);
-    let by_zero = binary(alloc, BinOp::Div, number(1), number(0))?;
-    assert!(rt; gives(alloc, by_zero, &any, Value::Missing)?);
-    let least = binary(alloc, BinOp::Div, number(-9223372036854775808), number(-1))?;
-    assert!(rt; gives(alloc, least, &any, Value::Missing)?);
-    let least = binary(alloc, BinOp::Rem, number(-9223372036854775808), number(-1))?;
-    assert!(rt; gives(alloc, least, &any, Value::Int(0))?);
+    let least = -9223372036854775808;
+    for (op, left, right, value) in [
+        (BinOp::Div, -7, 2, Value::Int(-3)),
+        (BinOp::Rem, -7, 2, Value::Int(-1)),
+        (BinOp::Div, 1, 0, Value::Missing),
+        (BinOp::Div, least, -1, Value::Missing),
+        (BinOp::Rem, least, -1, Value::Int(0)),
+        (BinOp::Add, 1, 9223372036854775807, Value::Missing),
+        (BinOp::Le, 2, 2, Value::Bool(true)),
+    ] {
+        let expr = binary(rt.alloc(), op, number(left), number(right))?;
+        assert!(rt; is_always(rt.alloc(), &expr, value)?, "{left} and {right}");
+    }
     Ok(())
 }
 
 #[test]
-fn casts_and_compares(rt: HostRuntime) -> Result<(), Fail> {
-    let alloc = rt.alloc();
-    let any = Value::Null;
-    let spelled = cast(alloc, letters(alloc, "-12")?, CastTo::Integer)?;
-    assert!(rt; gives(alloc, spelled, &any, Value::Int(-12))?);
-    let spelled = cast(alloc, letters(alloc, "-9223372036854775808")?, CastTo::Integer)?;
-    assert!(rt; gives(alloc, spelled, &any, Value::Int(-9223372036854775808))?);
-    let spelled = cast(alloc, letters(alloc, "x")?, CastTo::Integer)?;
-    assert!(rt; gives(alloc, spelled, &any, Value::Missing)?);
-    let zero = cast(alloc, number(0), CastTo::Boolean)?;
-    assert!(rt; gives(alloc, zero, &any, Value::Bool(false))?);
-    let unknown = member(alloc, number(1), Expr::Lit(Value::Null), number(2))?;
-    assert!(rt; gives(alloc, unknown, &any, Value::Null)?);
-    let among = member(alloc, number(1), Expr::Lit(Value::Null), number(1))?;
-    assert!(rt; gives(alloc, among, &any, Value::Bool(true))?);
-    let mixed = binary(alloc, BinOp::Lt, number(1), letters(alloc, "x")?)?;
-    assert!(rt; gives(alloc, mixed, &any, Value::Missing)?);
-    let first = Expr::Call {
-        name: Func::Coalesce,
-        args: two(alloc, Expr::Lit(Value::Missing), Expr::Lit(Value::Null))?,
-    };
-    assert!(rt; gives(alloc, first, &any, Value::Null)?);
-    let equal = Expr::Call {
-        name: Func::NullIf,
-        args: two(alloc, number(3), number(3))?,
-    };
-    assert!(rt; gives(alloc, equal, &any, Value::Null)?);
+fn casts_what_texts_spell(rt: HostRuntime) -> Result<(), Fail> {
+    for (spelled, value) in [
+        ("-12", Value::Int(-12)),
+        ("-9223372036854775808", Value::Int(-9223372036854775808)),
+        ("9223372036854775808", Value::Missing),
+        ("-", Value::Missing),
+    ] {
+        let expr = cast(rt.alloc(), letters(rt.alloc(), spelled)?, CastTo::Integer)?;
+        assert!(rt; is_always(rt.alloc(), &expr, value)?, "{spelled}");
+    }
+    let zero = cast(rt.alloc(), number(0), CastTo::Boolean)?;
+    assert!(rt; is_always(rt.alloc(), &zero, Value::Bool(false))?);
+    Ok(())
+}
+
+#[test]
+fn asks_for_members(rt: HostRuntime) -> Result<(), Fail> {
+    let unknown = member(rt.alloc(), number(1), Expr::Lit(Value::Null), number(2))?;
+    assert!(rt; is_always(rt.alloc(), &unknown, Value::Null)?);
+    let among = member(rt.alloc(), number(1), Expr::Lit(Value::Null), number(1))?;
+    assert!(rt; is_always(rt.alloc(), &among, Value::Bool(true))?);
+    Ok(())
+}
+
+#[test]
+fn takes_the_first_that_is_there(rt: HostRuntime) -> Result<(), Fail> {
+    let args = two(
+        rt.alloc(),
+        Expr::Lit(Value::Missing),
+        Expr::Lit(Value::Null),
+    )?;
+    let name = Func::Coalesce;
+    assert!(rt; is_always(rt.alloc(), &Expr::Call { name, args }, Value::Null)?);
+    let args = two(rt.alloc(), number(3), number(3))?;
+    let name = Func::NullIf;
+    assert!(rt; is_always(rt.alloc(), &Expr::Call { name, args }, Value::Null)?);
     Ok(())
 }
 
 #[test]
 fn matches_characters_and_bytes(rt: HostRuntime) -> Result<(), Fail> {
-    let alloc = rt.alloc();
-    let any = Value::Null;
     for (how, of, pattern, value) in [
         (How::Like, "abc", "%b%", true),
         (How::Like, "abc", "%b", false),
@@ -219,63 +243,84 @@ fn matches_characters_and_bytes(rt: HostRuntime) -> Result<(), Fail> {
         (How::Starts, "abc", "ab", true),
         (How::Ends, "abc", "ab", false),
     ] {
-        let expr = matching(alloc, how, of, pattern)?;
-        assert!(rt; gives(alloc, expr, &any, Value::Bool(value))?, "{of} {pattern}");
+        let expr = matching(rt.alloc(), how, of, pattern)?;
+        assert!(rt;
+            is_always(rt.alloc(), &expr, Value::Bool(value))?,
+            "{of} {pattern}"
+        );
     }
-    let length = call(alloc, Func::CharLength, letters(alloc, "aé")?)?;
-    assert!(rt; gives(alloc, length, &any, Value::Int(2))?);
+    let length = call(rt.alloc(), Func::CharLength, letters(rt.alloc(), "aé")?)?;
+    assert!(rt; is_always(rt.alloc(), &length, Value::Int(2))?);
+    Ok(())
+}
+
+/// 2024-02-29T23:59:59.999999Z, and one microsecond before 1970.
+const LATE: i64 = 1709251199999999;
+
+const BEFORE: i64 = -1;
+
+#[test]
+fn finds_the_starts_of_parts(rt: HostRuntime) -> Result<(), Fail> {
+    for (part, time, start) in [
+        (Part::Week, LATE, 1708905600000000),
+        (Part::Month, LATE, 1706745600000000),
+        (Part::Quarter, LATE, 1704067200000000),
+        (Part::Year, LATE, 1704067200000000),
+        (Part::Hour, LATE, 1709247600000000),
+        (Part::Day, BEFORE, -86400000000),
+    ] {
+        let of = Operand::new(rt.alloc(), Expr::Lit(Value::Time(time)))?;
+        assert!(rt;
+            is_always(rt.alloc(), &Expr::Trunc { part, of }, Value::Time(start))?,
+            "{start}"
+        );
+    }
     Ok(())
 }
 
 #[test]
 fn takes_times_apart(rt: HostRuntime) -> Result<(), Fail> {
-    let alloc = rt.alloc();
-    // 2024-02-29T23:59:59.999999Z
-    let of = Value::Struct(Pairs::new(alloc));
-    let late: i64 = 1709251199999999;
-    for (part, start) in [
-        (Part::Week, 1708905600000000),
-        (Part::Month, 1706745600000000),
-        (Part::Quarter, 1704067200000000),
-        (Part::Year, 1704067200000000),
-        (Part::Hour, 1709247600000000),
+    for (part, number) in [
+        (Part::Microsecond, 999999),
+        (Part::Day, 29),
+        (Part::Quarter, 1),
     ] {
-        let time = Operand::new(alloc, Expr::Lit(Value::Time(late)))?;
-        let expr = Expr::Trunc { part, of: time };
-        assert!(rt; gives(alloc, expr, &of, Value::Time(start))?, "{start}");
+        let of = Operand::new(rt.alloc(), Expr::Lit(Value::Time(LATE)))?;
+        assert!(rt;
+            is_always(rt.alloc(), &Expr::Extract { part, of }, Value::Int(number))?,
+            "{number}"
+        );
     }
-    for (part, number) in [(Part::Microsecond, 999999), (Part::Day, 29), (Part::Quarter, 1)] {
-        let time = Operand::new(alloc, Expr::Lit(Value::Time(late)))?;
-        let expr = Expr::Extract { part, of: time };
-        assert!(rt; gives(alloc, expr, &of, Value::Int(number))?, "{number}");
-    }
-    let epoch = call(alloc, Func::UnixEpoch, Expr::Lit(Value::Time(late)))?;
-    assert!(rt; gives(alloc, epoch, &of, Value::Int(1709251199))?);
-    let shifted = Expr::Shift {
-        part: Part::Day,
-        count: Operand::new(alloc, number(1))?,
-        of: Operand::new(alloc, Expr::Lit(Value::Time(late)))?,
-    };
-    assert!(rt; gives(alloc, shifted, &of, Value::Time(1709337599999999))?);
-    let before = Operand::new(alloc, Expr::Lit(Value::Time(-1)))?;
-    let expr = Expr::Trunc {
-        part: Part::Day,
-        of: before,
-    };
-    assert!(rt; gives(alloc, expr, &of, Value::Time(-86400000000))?);
+    let epoch = call(rt.alloc(), Func::UnixEpoch, Expr::Lit(Value::Time(LATE)))?;
+    assert!(rt; is_always(rt.alloc(), &epoch, Value::Int(1709251199))?);
     Ok(())
 }
 
 #[test]
-fn follows_paths(rt: HostRuntime) -> Result<(), Fail> {
-    let alloc = rt.alloc();
+fn moves_times(rt: HostRuntime) -> Result<(), Fail> {
+    let part = Part::Day;
+    let count = Operand::new(rt.alloc(), number(1))?;
+    let of = Operand::new(rt.alloc(), Expr::Lit(Value::Time(LATE)))?;
+    let expr = Expr::Shift { part, count, of };
+    assert!(rt; is_always(rt.alloc(), &expr, Value::Time(1709337599999999))?);
+    Ok(())
+}
+
+/// The row `{"a":[1,null]}`.
+fn with_list(alloc: Global) -> Result<Value, OutOfMemory> {
     let mut items = Items::new(alloc);
     items.push(Value::Int(1))?;
     items.push(Value::Null)?;
-    let of = row(alloc, Value::List(items), Value::Missing)?;
-    assert!(rt; gives(alloc, item(alloc, "a", 0)?, &of, Value::Int(1))?);
-    assert!(rt; gives(alloc, item(alloc, "a", 1)?, &of, Value::Null)?);
-    assert!(rt; gives(alloc, item(alloc, "a", 3)?, &of, Value::Missing)?);
-    assert!(rt; gives(alloc, item(alloc, "b", 0)?, &of, Value::Missing)?);
+    row(alloc, Value::List(items), Value::Missing)
+}
+
+#[test]
+fn follows_paths(rt: HostRuntime) -> Result<(), Fail> {
+    let of = with_list(rt.alloc())?;
+    for (at, value) in [(0, Value::Int(1)), (1, Value::Null), (3, Value::Missing)] {
+        let expr = item(rt.alloc(), "a", at)?;
+        let made = eval_row(rt.alloc(), &expr, &of)?;
+        assert!(rt; same(&made, &value), "{at}");
+    }
     Ok(())
 }

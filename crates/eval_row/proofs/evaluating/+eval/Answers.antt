@@ -19,7 +19,7 @@ pub eval_case-returns-then-is_true : goal.eval_case-returns-then-is_true
 eval_case-returns-then-is_true t c =
     let row = value_view c.args.row.now in
     rw (arm_holds c.args.arms.now c.loop-i.i (arm_view c.in-Some.arm.now) row (eval c.args.other.now row) (value_view c.in_ok-test.test)
-      (sym c.in-Some.ensures) c.in_ok-test.ensures (sym c.is_true.ensures ∙ c.if-is_true.true) c.loop-i.invariant)
+    (sym c.in-Some.ensures) c.in_ok-test.ensures (sym c.is_true.ensures ∙ c.if-is_true.true) c.loop-i.invariant)
     c.eval_row-then-is_true.ensures
 
 pub eval_case-loop-i-preserved : goal.eval_case-loop-i-preserved
@@ -36,4 +36,4 @@ eval_list-eval_row-requires t c =
 pub eval_list-loop-i-preserved : goal.eval_list-loop-i-preserved
 eval_list-loop-i-preserved t c =
     rw c.in_ok-push.ensures.ok (rw c.in_ok-eval_row.ensures
-      (evals_go_on c.args.list.now c.loop-i.i (view c.in-Some.expr.now) (value_view c.args.row.now) c.loop-i.values (sym c.in-Some.ensures) c.loop-i.invariant))
+    (evals_go_on c.args.list.now c.loop-i.i (view c.in-Some.expr.now) (value_view c.args.row.now) c.loop-i.values (sym c.in-Some.ensures) c.loop-i.invariant))
