@@ -4,6 +4,7 @@
 
 ghost use Rattle.eval_meaning.specs.LogicLaws.{TruthTables};
 ghost use Rattle.eval_meaning.specs.Laws.{DivisionIsExact, LikesIsExact};
+ghost use Rattle.eval_meaning.specs.Starts.{TruncIsGreatestStart};
 
 /// AND, OR, NOT and COALESCE are what the sentences say that tell them.
 pub fn truth_tables()
@@ -18,4 +19,9 @@ pub fn division_is_exact()
 /// Whether a pattern and a text match is tested exactly.
 pub fn likes_is_exact()
     ensures { LikesIsExact }
+{}
+
+/// DATE_TRUNC gives the greatest start of the part that isn't after the time.
+pub fn trunc_is_greatest_start()
+    ensures { TruncIsGreatestStart }
 {}
