@@ -140,24 +140,24 @@ module _ (Months : ℕ → Type 0) (t : ℤ) (in_range : IsTime t) (month : ℕ)
       let first = month_stays x 1 n h (omega arith, omega arith) k.0 in
       let not_after = b.year_last x h.1 (omega (arith, signed_arith)) in
       by_lt_z (pos x) (pos (year_of (day_at t))) (λ lt. year_rises x n (year_of (day_at t)) month h k (omega (arith, signed_arith)))
-        (λ ge.
-          (let same : x ≡ year_of (day_at t) = omega (arith, signed_arith) in
-          let moved : days_from_civil (pos x) n 1 ≡ days_from_civil (pos (year_of (day_at t))) n 1 = ap (λ (y : ℕ). days_from_civil (pos y) n 1) same in
-          let within = b.month_last n k.1 (rw (← moved) le) in
-          rw moved (month_stays (year_of (day_at t)) n month b.year_in k (last n among_n within))))
+      (λ ge.
+      (let same : x ≡ year_of (day_at t) = omega (arith, signed_arith) in
+      let moved : days_from_civil (pos x) n 1 ≡ days_from_civil (pos (year_of (day_at t))) n 1 = ap (λ (y : ℕ). days_from_civil (pos y) n 1) same in
+      let within = b.month_last n k.1 (rw (← moved) le) in
+      rw moved (month_stays (year_of (day_at t)) n month b.year_in k (last n among_n within))))
 
   pub first_is_greatest : IsGreatestStart (IsFirstOf Months) t (midnight (days_from_civil (pos (year_of (day_at t))) month 1))
   first_is_greatest = record {
     starts = record { year = year_of (day_at t); month = month; year_in = b.year_in; month_in = month_in; among = among; is = refl };
     before =
-      (let begun = month_stays (year_of (day_at t)) month (month_of (day_at t)) b.year_in month_in up_to in
-      let before_it = b.month_began in
-      omega (arith, signed_arith));
+        (let begun = month_stays (year_of (day_at t)) month (month_of (day_at t)) b.year_in month_in up_to in
+        let before_it = b.month_began in
+        omega (arith, signed_arith));
     greatest = λ w s le.
-      (let at = s.is in
-      let below : days_from_civil (pos s.year) s.month 1 ≤ℤ day_at t = omega (arith, signed_arith) in
-      let no_later = no_later s.year s.month s.year_in s.month_in s.among below in
-      omega (arith, signed_arith));
+        (let at = s.is in
+        let below : days_from_civil (pos s.year) s.month 1 ≤ℤ day_at t = omega (arith, signed_arith) in
+        let no_later = no_later s.year s.month s.year_in s.month_in s.among below in
+        omega (arith, signed_arith));
   }
 
 month_in_year : (t : ℤ) → IsTime t → IsInRange 1 12 (month_of (day_at t))

@@ -27,9 +27,9 @@ suffix_found : (test : List ℕ → Bool) (whole : List ℕ) → some_suffix tes
 suffix_found test [] h = record { skipped = []; suffix = []; is = refl; passes = h }
 suffix_found test (c ∷ cs) h =
     elim (either (test (c ∷ cs)) (some_suffix test cs) h) [
-      inl p ↦ record { skipped = []; suffix = c ∷ cs; is = refl; passes = p }
-    | inr p ↦ (let found = suffix_found test cs p in
-        record { skipped = c ∷ found.skipped; suffix = found.suffix; is = ap (λ l. c ∷ l) found.is; passes = found.passes })
+      | inl p ↦ record { skipped = []; suffix = c ∷ cs; is = refl; passes = p }
+      | inr p ↦ (let found = suffix_found test cs p in
+          record { skipped = c ∷ found.skipped; suffix = found.suffix; is = ap (λ l. c ∷ l) found.is; passes = found.passes })
     ]
 
 -- the test at the text itself passes
@@ -62,8 +62,8 @@ one_stands sign rest [] later h = cc
 one_stands sign rest (c ∷ cs) later h =
     let parts = both_parts (sign == 95 || sign == c) (likes rest cs) h in
     elim (either (sign == 95) (sign == c) parts.0) [
-      inl p ↦ any_one sign c rest cs (equal sign 95 p) (later cs parts.1)
-    | inr p ↦ (let at : sign ≡ c = equal sign c p in rw at (same c rest cs (later cs parts.1)))
+      | inl p ↦ any_one sign c rest cs (equal sign 95 p) (later cs parts.1)
+      | inr p ↦ (let at : sign ≡ c = equal sign c p in rw at (same c rest cs (later cs parts.1)))
     ]
 
 -- `%`: a suffix is matched by the rest

@@ -52,7 +52,7 @@ week_is t = record {
   starts = (monday_of (day_at t), refl, monday_starts (day_at t));
   before = (let b = monday_before (day_at t) in omega (arith, signed_arith));
   greatest = λ w s le.
-    (let there : s.0 ≤ℤ day_at t = omega (arith, signed_arith, s.1) in
-    let last = monday_last (day_at t) s.0 s.2 there in
-    omega (arith, signed_arith, s.1));
+      (let there : s.0 ≤ℤ day_at t = omega (arith, signed_arith, s.1) in
+      let last = monday_last (day_at t) s.0 s.2 there in
+      omega (arith, signed_arith, s.1));
 }
