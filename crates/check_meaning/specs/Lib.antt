@@ -1,0 +1,11 @@
+pub mod Same
+pub mod Operands
+pub mod Parts
+pub mod Limit
+pub mod Place
+pub mod Fault
+pub mod Names
+pub mod Places
+pub mod Aggregates
+pub mod Tests
+pub mod Verdict

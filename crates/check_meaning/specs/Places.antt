@@ -1,0 +1,52 @@
+-- What an order key stands for, and where each expression of a query stands.
+use Rattle.std.specs.Prelude.{ℕ, zero, suc, ℤ, pos, negsuc, List, [], ◌∷◌, ◌++◌, map, Option, None, Some, unwrap_or, slice_get}
+use Rattle.std.specs.Option.{option_and_then}
+use Rattle.std.specs.Str.{bytes_eq}
+use Rattle.std.specs.List.{position_from, enumerate_from}
+use Rattle.value_meaning.specs.Val.{int}
+use Rattle.query_meaning.specs.Tree.{name, Ex, lit, path, Outs, Query}
+use Rattle.check_meaning.specs.Names.{names, items_of}
+use Rattle.check_meaning.specs.Place.{Place, output, where_test, group_key, having, order_key}
+
+abbrev pub output_exs : Outs → List Ex
+output_exs outs = map (λ o. o.0) (items_of outs)
+
+-- output k, counted from 1
+unfoldable pub output_at : Outs → ℤ → Option Ex
+output_at outs (pos zero) = None
+output_at outs (pos (suc k)) = slice_get (output_exs outs) k
+output_at outs (negsuc k) = None
+
+-- the first output of that name
+unfoldable pub output_named : Outs → List ℕ → Option Ex
+output_named outs n = option_and_then (slice_get (output_exs outs)) (position_from (bytes_eq n) 0 (names outs))
+
+-- An order key that is a number k stands for output k. One that is a path of one name, from the row, stands for the
+-- output of that name, also where that output is another expression. Every other key, and a key that finds no output,
+-- is an expression of its own.
+abbrev pub found_output : Outs → Ex → Option Ex
+found_output outs (lit (int k)) = output_at outs k
+found_output outs (path zero (name n ∷ [])) = output_named outs n
+found_output outs e = None
+
+unfoldable pub order_ex : Outs → Ex → Ex
+order_ex outs e = unwrap_or (found_output outs e) e
+
+-- the expressions at places that are counted from 1
+abbrev pub counted : (ℕ → Place) → List Ex → List (Place × Ex)
+counted at es = map (λ n. (at n.0, n.1)) (enumerate_from 1 es)
+
+abbrev pub alone : Place → Option Ex → List (Place × Ex)
+alone at None = []
+alone at (Some e) = (at, e) ∷ []
+
+-- All expressions of a query in the order of its text, each with its place. An order key stands in the list as what it
+-- stands for: so one that stands for an output has the faults of that output, which has the earlier place. It takes away
+-- no path and no aggregate, since such a key is a number or a path of one step.
+unfoldable pub places : Query → List (Place × Ex)
+places q =
+    counted output (output_exs q.outs)
+    ++ alone where_test q.filter
+    ++ counted group_key q.keys
+    ++ alone having q.having
+    ++ counted order_key (map (λ k. order_ex q.outs k.0) q.order)

@@ -1,0 +1,77 @@
+-- Steps of the loops over steps, expressions and arms.
+use Rattle.std.proofs.Common.{◌≡◌, ℕ, zero, suc, ◌+◌, ◌<◌, Bool, true, false, cond, List, [], ◌∷◌, ◌++◌, map, drop, Option, Some, None, refl, sym, ◌∙◌, ap, add-one, append_assoc, arith}
+use Rattle.std.specs.Prelude.{slice_get, unwrap_or}
+use Rattle.std.specs.Option.{option_map}
+use Rattle.value_meaning.specs.Val.{Val, missing, list, struct, vals, fields}
+use Rattle.value_meaning.specs.Pairs.{value_of}
+use Rattle.value_meaning.proofs.Chains.{items-vals, pairs-fields}
+use Rattle.query_meaning.specs.Tree.{Step, name, at, Ex, size, exs, exs_size, arms, arms_size}
+use Rattle.eval_meaning.specs.Logic.{choice_of, is_true}
+use Rattle.eval_meaning.specs.Paths.{step_of, path_of}
+use Rattle.eval_meaning.specs.Evaluation.{eval, evals, choices}
+
+module _ {X : Type 0} where
+  at_suc : (xs : List X) (i : ℕ) (x : X) → slice_get xs i ≡ Some x → drop i xs ≡ x ∷ drop (suc i) xs
+  at_suc [] i x h = cc
+  at_suc (y ∷ ys) zero x h = (let w : y ≡ x = cc in ap (λ z. z ∷ ys) w)
+  at_suc (y ∷ ys) (suc i) x h = at_suc ys i x h
+
+  -- what follows the item at a place
+  pub drop_at : (xs : List X) (i : ℕ) (x : X) → slice_get xs i ≡ Some x → drop i xs ≡ x ∷ drop (i + 1) xs
+  drop_at xs i x h = rw add-one (at_suc xs i x h)
+
+pub name_step : (n : List ℕ) (fs : List (List ℕ × Val)) → step_of (name n) (struct (fields fs)) ≡ unwrap_or (value_of n fs) missing
+name_step n fs = ap (λ gs. unwrap_or (value_of n gs) missing) (pairs-fields fs)
+
+pub item_step : (i : ℕ) (vs : List Val) → step_of (at i) (list (vals vs)) ≡ unwrap_or (slice_get vs i) missing
+item_step i vs = ap (λ ws. unwrap_or (slice_get ws i) missing) (items-vals vs)
+
+-- no path leads away from MISSING
+pub path_of_missing : (ss : List Step) → path_of ss missing ≡ missing
+path_of_missing [] = refl
+path_of_missing (name n ∷ ss) = path_of_missing ss
+path_of_missing (at i ∷ ss) = path_of_missing ss
+
+module _ {S : Type 0} (f : S → Step) where
+  -- a path goes on with the step at a place
+  pub path_goes_on : (ss : List S) (i : ℕ) (s : S) (v : Val) → slice_get ss i ≡ Some s → path_of (map f (drop i ss)) v ≡ path_of (map f (drop (i + 1) ss)) (step_of (f s) v)
+  path_goes_on ss i s v h = ap (λ l. path_of (map f l) v) (drop_at ss i s h)
+
+-- the values of expressions up to a place
+pub evals_go_on : (es : List Ex) (i : ℕ) (e : Ex) (row : Val) (made : List Val) → slice_get es i ≡ Some e
+    → evals (exs es) row ≡ made ++ evals (exs (drop i es)) row → evals (exs es) row ≡ (made ++ eval e row ∷ []) ++ evals (exs (drop (i + 1) es)) row
+evals_go_on es i e row made h all = all ∙ ap (λ l. made ++ evals (exs l) row) (drop_at es i e h) ∙ simp append_assoc
+
+pub ex_is_smaller : (es : List Ex) (i : ℕ) (e : Ex) → slice_get es i ≡ Some e → size e < exs_size (exs es)
+ex_is_smaller [] i e h = cc
+ex_is_smaller (x ∷ xs) zero e h = (let w : x ≡ e = cc in rw w (omega arith))
+ex_is_smaller (x ∷ xs) (suc i) e h = omega (arith, ex_is_smaller xs i e h)
+
+-- the arms from a place on begin with the one there
+pub arms_go_on : (xs : List (Ex × Ex)) (i : ℕ) (x : Ex × Ex) (row other : Val) → slice_get xs i ≡ Some x
+    → choices (arms (drop i xs)) row other ≡ choice_of (eval x.0 row) (eval x.1 row) (choices (arms (drop (i + 1) xs)) row other)
+arms_go_on xs i x row other h = ap (λ l. choices (arms l) row other) (drop_at xs i x h)
+
+pub test_is_smaller : (xs : List (Ex × Ex)) (i : ℕ) (x : Ex × Ex) → slice_get xs i ≡ Some x → size x.0 + size x.1 < arms_size (arms xs)
+test_is_smaller [] i x h = cc
+test_is_smaller (y ∷ ys) zero x h = (let w : y ≡ x = cc in rw w (omega arith))
+test_is_smaller (y ∷ ys) (suc i) x h = omega (arith, test_is_smaller ys i x h)
+
+chosen : (b : Bool) (v later : Val) → b ≡ true → cond b v later ≡ v
+chosen true v later h = refl
+chosen false v later h = cc
+
+passed_by : (b : Bool) (v later : Val) → b ≡ false → cond b v later ≡ later
+passed_by true v later h = cc
+passed_by false v later h = refl
+
+-- an arm whose test is true, behind arms whose tests aren't
+pub arm_holds : (xs : List (Ex × Ex)) (i : ℕ) (x : Ex × Ex) (row other test : Val) → slice_get xs i ≡ Some x → test ≡ eval x.0 row → is_true test ≡ true
+    → choices (arms (drop i xs)) row other ≡ choices (arms xs) row other → choices (arms xs) row other ≡ eval x.1 row
+arm_holds xs i x row other test h e t all =
+    sym all ∙ arms_go_on xs i x row other h ∙ chosen (is_true (eval x.0 row)) (eval x.1 row) (choices (arms (drop (i + 1) xs)) row other) (rw (← e) t)
+
+pub arm_fails : (xs : List (Ex × Ex)) (i : ℕ) (x : Ex × Ex) (row other test : Val) → slice_get xs i ≡ Some x → test ≡ eval x.0 row → is_true test ≡ false
+    → choices (arms (drop i xs)) row other ≡ choices (arms xs) row other → choices (arms (drop (i + 1) xs)) row other ≡ choices (arms xs) row other
+arm_fails xs i x row other test h e t all =
+    sym (passed_by (is_true (eval x.0 row)) (eval x.1 row) (choices (arms (drop (i + 1) xs)) row other) (rw (← e) t)) ∙ sym (arms_go_on xs i x row other h) ∙ all
