@@ -1,0 +1,4 @@
+pub mod BitLemmas
+pub mod Every
+pub mod LaneKinds
+pub mod TruthTables
