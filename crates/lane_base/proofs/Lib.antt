@@ -2,4 +2,5 @@ pub mod BitLemmas
 pub mod Choosing
 pub mod Every
 pub mod LaneKinds
+pub mod TimeFits
 pub mod TruthTables
