@@ -37,7 +37,7 @@ pub struct Lanes<'b> {
 }
 
 /// What one lane shows.
-#[derive(Clone, Copy, Debug)]
+#[derive(Clone, Copy, Debug, PartialEq, Eq)]
 pub enum Look<'b> {
     Missing,
     Null,

@@ -9,6 +9,8 @@ mod lanes;
 mod logic;
 mod mask;
 mod merge;
+#[cfg(test)]
+mod tests;
 
 pub use constant::const16;
 pub use lanes::{IntLanes, Lanes, Look, SpanLanes};
