@@ -23,7 +23,13 @@ pub fn const16<'b>(value: Look<'b>, m: LaneMask) -> Lanes<'b>
         Look::Null => Lanes::truths(m, none, none),
         Look::Bool(true) => Lanes::truths(none, m, none),
         Look::Bool(false) => Lanes::truths(none, none, m),
-        Look::Int(number) => Lanes::ints(none, m, IntLanes { lanes: [number; 16] }),
+        Look::Int(number) => Lanes::ints(
+            none,
+            m,
+            IntLanes {
+                lanes: [number; 16],
+            },
+        ),
         Look::Time(moment) => one_time(moment, m),
         Look::Text(bytes) => one_text(bytes, m),
         Look::Tree(cell) => one_tree(cell, m),
@@ -35,7 +41,13 @@ fn one_time<'b>(moment: i64, m: LaneMask) -> Lanes<'b>
     ensures value { (table : Table) (i : ℕ) → i < 16 → value_at table result i ≡ under (has m.0 i) (time moment) }
     ensures legal { (table : Table) → IsTime moment → AreLegal table result }
 {
-    Lanes::times(LaneMask::none(), m, IntLanes { lanes: [moment; 16] })
+    Lanes::times(
+        LaneMask::none(),
+        m,
+        IntLanes {
+            lanes: [moment; 16],
+        },
+    )
 }
 
 // One text in each lane of `m`.

@@ -214,8 +214,6 @@ impl<'b> Lanes<'b> {
         ensures { (table : Table) (i : ℕ) → i < 16 → IsLegal table (shown self.now i)
             → has result.0 i ≡ not (is_missing (value_at table self.now i) || is_null (value_at table self.now i)) }
     {
-        LaneMask(
-            self.yes.0 | self.no.0 | self.int.0 | self.time.0 | self.text.0 | self.tree.0,
-        )
+        LaneMask(self.yes.0 | self.no.0 | self.int.0 | self.time.0 | self.text.0 | self.tree.0)
     }
 }

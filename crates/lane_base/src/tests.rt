@@ -64,10 +64,30 @@ fn letters(lanes: &Lanes<'_>) -> [u8; 16] {
 /// Two rows of a table of pairs, as sixteen lanes.
 #[test]
 fn pairs_of_kinds(rt: HostRuntime) {
-    let and: [[u8; 16]; 4] = [*b"MMMFMMMMMNNFMMMM", *b"MNTFMMMMFFFFFFFF", *b"MMMFMMMMMMMFMMMM", *b"MMMFMMMMMMMFMMMM"];
-    let or: [[u8; 16]; 4] = [*b"MMTMMMMMMNTNMMMM", *b"TTTTTTTTMNTFMMMM", *b"MMTMMMMMMMTMMMMM", *b"MMTMMMMMMMTMMMMM"];
-    let coalesce: [[u8; 16]; 4] = [*b"MNTFICXRNNTFICXR", *b"TTTTTTTTFFFFFFFF", *b"IIIIIIIICCCCCCCC", *b"XXXXXXXXRRRRRRRR"];
-    let merge: [[u8; 16]; 4] = [*b"MNTFMMMMMNTFNNNN", *b"MNTFTTTTMNTFFFFF", *b"MNTFIIIIMNTFCCCC", *b"MNTFXXXXMNTFRRRR"];
+    let and: [[u8; 16]; 4] = [
+        *b"MMMFMMMMMNNFMMMM",
+        *b"MNTFMMMMFFFFFFFF",
+        *b"MMMFMMMMMMMFMMMM",
+        *b"MMMFMMMMMMMFMMMM",
+    ];
+    let or: [[u8; 16]; 4] = [
+        *b"MMTMMMMMMNTNMMMM",
+        *b"TTTTTTTTMNTFMMMM",
+        *b"MMTMMMMMMMTMMMMM",
+        *b"MMTMMMMMMMTMMMMM",
+    ];
+    let coalesce: [[u8; 16]; 4] = [
+        *b"MNTFICXRNNTFICXR",
+        *b"TTTTTTTTFFFFFFFF",
+        *b"IIIIIIIICCCCCCCC",
+        *b"XXXXXXXXRRRRRRRR",
+    ];
+    let merge: [[u8; 16]; 4] = [
+        *b"MNTFMMMMMNTFNNNN",
+        *b"MNTFTTTTMNTFFFFF",
+        *b"MNTFIIIIMNTFCCCC",
+        *b"MNTFXXXXMNTFRRRR",
+    ];
     let all = LaneMask::all();
     let kinds = kinds();
     let b = right();
@@ -75,8 +95,16 @@ fn pairs_of_kinds(rt: HostRuntime) {
         let a = left(kinds[half * 2], kinds[half * 2 + 1]);
         assert_eq!(rt; letters(&and16(&a, &b, all)), and[half], "AND of {half}");
         assert_eq!(rt; letters(&or16(&a, &b, all)), or[half], "OR of {half}");
-        assert_eq!(rt; letters(&first16(&a, &b, all)), coalesce[half], "COALESCE of {half}");
-        assert_eq!(rt; letters(&merge16(LaneMask(0xF0F0), &a, &b, all)), merge[half], "choice of {half}");
+        assert_eq!(rt;
+            letters(&first16(&a, &b, all)),
+            coalesce[half],
+            "COALESCE of {half}"
+        );
+        assert_eq!(rt;
+            letters(&merge16(LaneMask(0xF0F0), &a, &b, all)),
+            merge[half],
+            "choice of {half}"
+        );
     }
 }
 
@@ -87,14 +115,26 @@ fn kinds_one_by_one(rt: HostRuntime) {
     assert_eq!(rt; letters(&a), *b"MNTFICXRMNTFICXR");
     assert_eq!(rt; letters(&not16(&a, all)), *b"MNFTMMMMMNFTMMMM");
     assert_eq!(rt; letters(&is16(IsWhat::Null, &a, all)), *b"FTFFFFFFFTFFFFFF");
-    assert_eq!(rt; letters(&is16(IsWhat::Missing, &a, all)), *b"TFFFFFFFTFFFFFFF");
+    assert_eq!(rt;
+        letters(&is16(IsWhat::Missing, &a, all)),
+        *b"TFFFFFFFTFFFFFFF"
+    );
     assert_eq!(rt; letters(&is16(IsWhat::True, &a, all)), *b"FFTFFFFFFFTFFFFF");
-    assert_eq!(rt; letters(&is16(IsWhat::False, &a, all)), *b"FFFTFFFFFFFTFFFF");
+    assert_eq!(rt;
+        letters(&is16(IsWhat::False, &a, all)),
+        *b"FFFTFFFFFFFTFFFF"
+    );
     assert_eq!(rt; true16(&a, all), LaneMask(0x0404));
     assert_eq!(rt; true16(&a, LaneMask(0x00FF)), LaneMask(0x0004));
-    assert_eq!(rt; letters(&keep16(&a, LaneMask(0xFF00))), *b"MMMMMMMMMNTFICXR");
+    assert_eq!(rt;
+        letters(&keep16(&a, LaneMask(0xFF00))),
+        *b"MMMMMMMMMNTFICXR"
+    );
     assert_eq!(rt; letters(&not16(&a, LaneMask(0x00F8))), *b"MMMTMMMMMMMMMMMM");
-    assert_eq!(rt; letters(&is16(IsWhat::Missing, &a, LaneMask(0x0003))), *b"TFMMMMMMMMMMMMMM");
+    assert_eq!(rt;
+        letters(&is16(IsWhat::Missing, &a, LaneMask(0x0003))),
+        *b"TFMMMMMMMMMMMMMM"
+    );
 }
 
 /// What a lane holds is passed on as it was.

@@ -15,6 +15,6 @@ returns-clause-value c table i h =
 pub returns-clause-legal : goal.returns-clause-legal
 returns-clause-legal c table p = record {
   lane = λ i h.
-    legal-choice table (has c.args.m.0 i) true _ (shown c.args.a.now i) (shown c.args.a.now i)
-    (simp has-and (kept_lane c.args.a.now i (has c.args.m.0 i))) (p.lane i h) (p.lane i h)
+      legal-choice table (has c.args.m.0 i) true _ (shown c.args.a.now i) (shown c.args.a.now i)
+      (simp has-and (kept_lane c.args.a.now i (has c.args.m.0 i))) (p.lane i h) (p.lane i h);
 }

@@ -15,7 +15,7 @@ returns-clause-value c table i h =
 pub returns-clause-legal : goal.returns-clause-legal
 returns-clause-legal c table p q = record {
   lane = λ i h.
-    legal-choice table (has c.args.m.0 i) (has c.args.pick.0 i) _ (shown c.args.a.now i) (shown c.args.b.now i)
-    (simp (has-less, has-and, has-or, choose) (chosen_lane c.args.a.now c.args.b.now i (has c.args.pick.0 i) (has c.args.m.0 i) _ _ (c.pick_nums.ensures i h) (c.pick_spans.ensures i h)))
-    (p.lane i h) (q.lane i h)
+      legal-choice table (has c.args.m.0 i) (has c.args.pick.0 i) _ (shown c.args.a.now i) (shown c.args.b.now i)
+      (simp (has-less, has-and, has-or, choose) (chosen_lane c.args.a.now c.args.b.now i (has c.args.pick.0 i) (has c.args.m.0 i) _ _ (c.pick_nums.ensures i h) (c.pick_spans.ensures i h)))
+      (p.lane i h) (q.lane i h);
 }
