@@ -1,7 +1,7 @@
 -- The test of one bit, of the operators on masks.
-use Rattle.std.proofs.Common.{◌≡◌, ℕ, zero, suc, ◌<◌, ◌+◌, ◌-◌, ◌%◌, ◌^◌, min, max, refl, ap, ◌∙◌, arith, Bool, true, false, cond, nat_eq, not, ◌&&◌, ◌||◌, bit_and, bit_or}
+use Rattle.std.proofs.Common.{◌≡◌, ℕ, zero, suc, ◌<◌, ◌+◌, ◌-◌, ◌%◌, min, max, refl, ap, ◌∙◌, arith, Bool, true, false, cond, nat_eq, not, ◌&&◌, ◌||◌, bit_and, bit_or}
 use Rattle.std.specs.Prelude.{bit_xor}
-use Rattle.std.specs.Int.{bit_at, bit_not, w16}
+use Rattle.std.specs.Int.{w16}
 use Rattle.std.proofs.lemmas.Nat.Bits.{bit_at_and, bit_at_or, bit_at_xor, bit_at_not, bit_at-lt, bit_at-zero}
 use Rattle.lane_base.specs.Bits.{has}
 

@@ -1,5 +1,5 @@
 -- A choice between two registers at one lane.
-use Rattle.std.proofs.Common.{◌≡◌, ◌<◌, ℕ, ℤ, List, refl, ap, ◌∙◌, sym, subst, Bool, true, false, cond, not, ◌&&◌, ◌||◌}
+use Rattle.std.proofs.Common.{◌≡◌, ℕ, ℤ, List, refl, ap, ◌∙◌, sym, subst, Bool, true, false, cond, not, ◌&&◌, ◌||◌}
 use Rattle.std.specs.Prelude.{if◌then◌else◌}
 use Rattle.value_meaning.specs.Val.{Val, missing, null}
 use Rattle.eval_meaning.specs.Logic.{is_missing, is_null, first_of}
@@ -7,7 +7,7 @@ use Rattle.block_meaning.specs.Tables.{Table}
 use Rattle.lane_base.specs.declared.lanes.Lanes.{Lanes}
 use Rattle.lane_base.specs.Bits.{has, at_most_one}
 use Rattle.lane_base.specs.Shown.{Shown, Missing, show_as, value_under, IsLegal}
-use Rattle.lane_base.specs.Registers.{shown, value_at, under, number_at, span_at}
+use Rattle.lane_base.specs.Registers.{shown, under, number_at, span_at}
 
 -- one mask of the result: the bit of a or b where the lane is within, by whether a is picked
 pub choose : (x y p m : Bool) → ((x && (m && p)) || (y && (m && not p))) ≡ cond m (cond p x y) false

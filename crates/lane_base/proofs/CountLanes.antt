@@ -1,12 +1,12 @@
 -- The lanes of a mask, counted.
-use Rattle.std.proofs.Common.{◌≡◌, ℕ, zero, suc, ◌+◌, ◌/◌, ◌%◌, ◌^◌, ◌<◌, refl, ap, sym, ◌∙◌, arith, Bool, true, false, cond, nat_eq}
+use Rattle.std.proofs.Common.{◌≡◌, ℕ, zero, suc, ◌+◌, ◌/◌, ◌%◌, ◌^◌, ◌<◌, refl, ap, sym, ◌∙◌, arith, false, cond, nat_eq}
 use Rattle.std.proofs.lemmas.Bool.Decides.{nat_tests}
 use Rattle.std.specs.Prelude.{IsTrue}
 use Rattle.std.specs.Prelude.{count_by}
 use Rattle.std.specs.List.{range_with_len}
 use Rattle.std.specs.Int.RustNames.{count_ones}
 use Rattle.std.proofs.lemmas.List.Sums.{sum_by-cons}
-use Rattle.std.proofs.lemmas.Nat.Bits.{bit_at-suc, bit_at-lt}
+use Rattle.std.proofs.lemmas.Nat.Bits.{bit_at-suc}
 use lib.Count.{ones_step}
 use Rattle.lane_base.specs.Bits.{has}
 

@@ -1,12 +1,12 @@
 -- Which masks a lane is in, by the kind of its value.
-use Rattle.std.proofs.Common.{◌≡◌, ℕ, ℤ, List, refl, ap, ◌∙◌, sym, Bool, true, false, cond, not, ◌&&◌, ◌||◌}
-use Rattle.value_meaning.specs.Val.{Val, missing, null, truth, int, time, text, list, struct}
+use Rattle.std.proofs.Common.{◌≡◌, ℕ, ℤ, List, refl, ap, ◌∙◌, sym, Bool, true, false, not, ◌&&◌, ◌||◌}
+use Rattle.value_meaning.specs.Val.{Val, missing, null, truth}
 use Rattle.block_meaning.specs.Tables.{Table}
 use Rattle.block_meaning.specs.CellReading.{cell_value}
 use Rattle.eval_meaning.specs.Logic.{is_null, is_missing, is_true, is_false}
 use Rattle.lane_base.specs.declared.lanes.Lanes.{Lanes}
 use Rattle.lane_base.specs.Bits.{has, at_most_one}
-use Rattle.lane_base.specs.Shown.{show_as, value_under, is_nested, IsTree, IsLegal}
+use Rattle.lane_base.specs.Shown.{show_as, value_under, is_nested, IsLegal}
 use Rattle.lane_base.specs.Registers.{shown, value_at, number_at, span_at}
 
 nested_null : (v : Val) → is_nested v ≡ true → is_null v ≡ false

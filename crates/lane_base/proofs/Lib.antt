@@ -3,5 +3,6 @@ pub mod Choosing
 pub mod CountLanes
 pub mod Every
 pub mod LaneKinds
+pub mod Legality
 pub mod TimeFits
 pub mod TruthTables

@@ -1,5 +1,5 @@
 -- A time fits 64 bits with a sign.
-use Rattle.std.proofs.Common.{◌≡◌, ℤ, pos, negsuc, to_z, of_z, to_z-of_z, w64, arith, FitsSigned}
+use Rattle.std.proofs.Common.{◌≡◌, ℤ, to_z, of_z, to_z-of_z, w64, arith}
 use Rattle.std.proofs.lemmas.Int.{ints}
 use Rattle.time_meaning.specs.Moments.{IsTime}
 

@@ -1,14 +1,14 @@
 -- The truth tables at one lane, by reflection over the bits.
-use Rattle.std.proofs.Common.{◌≡◌, ◌<◌, ℕ, ℤ, List, refl, ap, ◌∙◌, sym, Bool, true, false, cond, not, ◌&&◌, ◌||◌}
-use Rattle.value_meaning.specs.Val.{Val, missing, null, truth, int, time, text, list, struct}
+use Rattle.std.proofs.Common.{◌≡◌, ℕ, ℤ, List, refl, ap, ◌∙◌, sym, Bool, true, false, cond, not, ◌&&◌, ◌||◌}
+use Rattle.value_meaning.specs.Val.{Val, list, struct}
 use Rattle.block_meaning.specs.Tables.{Table}
 use Rattle.block_meaning.specs.CellReading.{cell_value}
-use Rattle.eval_meaning.specs.Logic.{Logic, holds, fails, unknown, other, logic_of, of_logic, and_logic, or_logic, not_logic, and_of, or_of, not_of, is_true}
+use Rattle.eval_meaning.specs.Logic.{Logic, holds, fails, unknown, other, logic_of, of_logic, and_logic, or_logic, not_logic, and_of, or_of, not_of}
 use Rattle.lane_base.specs.declared.lanes.Lanes.{Lanes}
 use Rattle.lane_base.specs.Bits.{has, at_most_one}
-use Rattle.lane_base.specs.Shown.{Shown, Missing, Null, Truth, Int, Time, Text, Tree, show_as, value_under, is_nested, IsTree, IsLegal}
+use Rattle.lane_base.specs.Shown.{show_as, value_under, is_nested, IsLegal}
 use Rattle.lane_base.specs.Registers.{shown, value_at, under, truth_as, number_at, span_at}
-use Rattle.lane_base.proofs.Every.{every7, every7-at, every4, every4-at}
+use Rattle.lane_base.proofs.Every.{every7-at, every4-at}
 
 -- a list or a struct is nothing that the truth tables know
 nested_logic : (v : Val) → is_nested v ≡ true → logic_of v ≡ other

@@ -1,5 +1,5 @@
 -- What one lane shows, and which value that is under a symbol table.
-use Rattle.std.specs.Prelude.{◌≡◌, ℕ, ℤ, Bool, true, false, List, cond, IsTrue}
+use Rattle.std.specs.Prelude.{◌≡◌, ℕ, ℤ, Bool, true, false, List, cond}
 use Rattle.std.specs.Str.{IsUtf8}
 use Rattle.value_meaning.specs.Val.{Val, missing, null, truth, int, time, text, list, struct}
 use Rattle.time_meaning.specs.Moments.{IsTime}

@@ -79,9 +79,8 @@ fn pick_spans<'b>(pick: LaneMask, a: &SpanLanes<'b>, b: &SpanLanes<'b>) -> SpanL
 {
     let mut lanes = b.lanes;
     for i in 0..16usize {
-        let of_a = a.lanes[i];
-        let of_b = b.lanes[i];
-        lanes[i] = if pick.has(i as u32) { of_a } else { of_b };
+        let from = if pick.has(i as u32) { a } else { b };
+        lanes[i] = from.lanes[i];
     }
     SpanLanes { lanes }
 }

@@ -1,6 +1,6 @@
 use Rattle.std.proofs.Common.{◌∙◌}
 use Rattle.lane_base.specs.Bits.{has}
-use Rattle.lane_base.proofs.BitLemmas.{has-and, has-or, has-zero}
+use Rattle.lane_base.proofs.BitLemmas.{has-and, has-or}
 use Rattle.lane_base.proofs.TruthTables.{and_value, and_apart, three}
 use Rattle.lane_base.proofs.logic.and16.Goals as goal
 

@@ -1,6 +1,6 @@
 use Rattle.std.proofs.Common.{◌∙◌}
 use Rattle.lane_base.specs.Bits.{has}
-use Rattle.lane_base.proofs.BitLemmas.{has-and, has-or, has-zero}
+use Rattle.lane_base.proofs.BitLemmas.{has-and, has-or}
 use Rattle.lane_base.proofs.TruthTables.{or_value, or_apart, three}
 use Rattle.lane_base.proofs.logic.or16.Goals as goal
 

@@ -1,6 +1,6 @@
-use Rattle.std.proofs.Common.{◌∙◌, ap, cond}
+use Rattle.std.proofs.Common.{◌∙◌}
 use Rattle.lane_base.specs.Bits.{has}
-use Rattle.lane_base.specs.Registers.{value_at, under}
+use Rattle.lane_base.specs.Registers.{value_at}
 use Rattle.lane_base.proofs.LaneKinds.{null_lane}
 use Rattle.lane_base.proofs.Choosing.{first_lane}
 use Rattle.lane_base.proofs.merge.first16.Goals as goal
