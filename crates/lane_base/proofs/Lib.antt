@@ -1,0 +1,8 @@
+pub mod BitLemmas
+pub mod Choosing
+pub mod CountLanes
+pub mod Every
+pub mod LaneKinds
+pub mod Legality
+pub mod TimeFits
+pub mod TruthTables
