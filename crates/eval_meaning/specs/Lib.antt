@@ -1,2 +1,12 @@
 pub mod Logic
 pub mod LogicLaws
+pub mod Operands
+pub mod Comparisons
+pub mod Numbers
+pub mod Casts
+pub mod Matching
+pub mod Times
+pub mod Paths
+pub mod Evaluation
+pub mod Passed
+pub mod Laws

@@ -1,0 +1,2 @@
+pub mod LikesExact
+pub mod Division
