@@ -30,9 +30,9 @@ impl<'b> Cell<'b> {
     ghost use Rattle.ion_cells.specs.Values.{int_of, truth_of, time_of, text_in, items_in, pairs_in};
     ghost use Rattle.ion_cells.specs.Iterating.{items_last, values_left, fields_last, pairs_left};
 
-    /// The cell of these bytes, which are one and nothing else.
+    /// The cell of these bytes, which are one and nothing else. They aren't read: the caller knows it.
     #[tactic(auto, unfolding(crate::specs::Shown::cell_bytes, crate::specs::Shown::cell_last))]
-    pub(crate) fn of_bytes(bytes: &'b [u8], last: u32) -> Cell<'b>
+    pub fn of_bytes(bytes: &'b [u8], last: u32) -> Cell<'b>
         requires { is_cell (blank_table last) bytes.now ≡ true }
         ensures bytes { cell_bytes result ≡ bytes.now }
         ensures last { cell_last result ≡ last }
