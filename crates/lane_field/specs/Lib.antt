@@ -1,0 +1,4 @@
+pub mod CellsOf
+pub mod Kinds
+pub mod Loaded
+pub mod Steps

@@ -1,0 +1,38 @@
+ghost use Rattle.std.specs.Prelude.{◌≡◌, ◌<◌};
+ghost use Rattle.std.specs.Option.{option_map};
+ghost use Rattle.lane_field.specs.CellsOf.{cell_in, cell_within};
+
+use ion_cells::Cell;
+use lane_base::LaneMask;
+
+/// In each of sixteen lanes a cell or none.
+#[derive(Clone, Copy)]
+pub struct CellLanes<'b> {
+    cells: [Option<Cell<'b>>; 16],
+}
+
+impl<'b> CellLanes<'b> {
+    /// The cell of the lane, which is below 16. None exactly where the lane holds none.
+    #[inline(always)]
+    #[tactic(auto, unfolding(crate::specs::CellsOf::cell_in))]
+    pub fn get(&self, lane: u32) -> Option<&Cell<'b>>
+        requires { lane < 16 }
+        ensures { option_map (λ c. c.now) result ≡ cell_in self.now lane }
+    {
+        self.cells[lane as usize].as_ref()
+    }
+
+    /// The cell of the lane, which is below 16, where the lane is in the mask.
+    #[inline(always)]
+    #[tactic(auto, unfolding(crate::specs::CellsOf::cell_in))]
+    pub(crate) fn get_in(&self, lane: u32, m: LaneMask) -> Option<Cell<'b>>
+        requires { lane < 16 }
+        ensures { result ≡ cell_within m.0 self.now lane }
+    {
+        if m.has(lane) {
+            self.cells[lane as usize]
+        } else {
+            None
+        }
+    }
+}

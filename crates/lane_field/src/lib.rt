@@ -1,0 +1,13 @@
+//! Fields and items of sixteen values at once, and what their cells denote.
+//!
+//! From lanes that show structs or lists a kernel finds the cell of a pair or of an item in each lane of a mask; from such
+//! cells a kernel loads the values that they denote under a symbol table. No kernel takes memory, and none can refuse.
+#![tactic(auto)]
+
+mod cells;
+mod kinds;
+
+
+pub use cells::CellLanes;
+pub use kinds::KindMasks;
+
