@@ -19,7 +19,8 @@ impl<'b> CellLanes<'b> {
         requires { lane < 16 }
         ensures { option_map (λ c. c.now) result ≡ cell_in self.now lane }
     {
-        self.cells[lane as usize].as_ref()
+        let cells = &self.cells[..];
+        cells[lane as usize].as_ref()
     }
 
     /// The cell of the lane, which is below 16, where the lane is in the mask.
@@ -30,9 +31,25 @@ impl<'b> CellLanes<'b> {
         ensures { result ≡ cell_within m.0 self.now lane }
     {
         if m.has(lane) {
-            self.cells[lane as usize]
+            let cells = &self.cells[..];
+            cells[lane as usize]
         } else {
             None
         }
+    }
+
+    /// No cell in any lane.
+    #[inline(always)]
+    pub(crate) fn none() -> CellLanes<'b> {
+        CellLanes { cells: [None; 16] }
+    }
+
+    /// Puts a cell into the lane, which is below 16.
+    #[inline(always)]
+    pub(crate) fn put(&mut self, lane: u32, cell: Cell<'b>)
+        requires { lane < 16 }
+    {
+        let cells = &mut self.cells[..];
+        cells[lane as usize] = Some(cell);
     }
 }
