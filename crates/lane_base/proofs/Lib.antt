@@ -1,0 +1,5 @@
+pub mod BitLemmas
+pub mod Choosing
+pub mod Every
+pub mod LaneKinds
+pub mod TruthTables

@@ -1,5 +1,5 @@
 -- Masks: the bits of a number, as tests.
-use Rattle.std.specs.Prelude.{ℕ, ◌/◌, ◌%◌, ◌^◌, Bool, cond, nat_eq, not, ◌&&◌, ◌||◌, IsTrue}
+use Rattle.std.specs.Prelude.{ℕ, ◌/◌, ◌%◌, ◌^◌, Bool, false, cond, nat_eq, not, ◌&&◌, ◌||◌, IsTrue}
 
 -- bit i of the mask is 1
 unfoldable pub has : ℕ → ℕ → Bool
@@ -21,3 +21,7 @@ at_most_one a b c d e f g =
 -- no bit is 1 in two of seven masks
 abbrev pub IsDisjoint : (a b c d e f g : ℕ) → Type 0
 IsDisjoint a b c d e f g = (k : ℕ) → IsTrue (at_most_one (has a k) (has b k) (has c k) (has d k) (has e k) (has f k) (has g k))
+
+-- no bit is 1 in two of three masks
+abbrev pub AreApart : (a b c : ℕ) → Type 0
+AreApart a b c = (k : ℕ) → IsTrue (at_most_one (has a k) (has b k) (has c k) false false false false)

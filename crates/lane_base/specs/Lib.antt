@@ -1,3 +1,4 @@
 pub mod Bits
 pub mod Shown
 pub mod Registers
+pub mod Asking

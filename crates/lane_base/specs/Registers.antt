@@ -1,7 +1,7 @@
 -- What each lane shows.
-use Rattle.std.specs.Prelude.{◌≡◌, ◌<◌, ℕ, ℤ, pos, Bool, true, List, [], cond, slice_index_or}
+use Rattle.std.specs.Prelude.{◌≡◌, ◌<◌, ℕ, ℤ, pos, Bool, true, false, List, [], cond, slice_index_or}
 use Rattle.std.specs.Borrow.{Bor}
-use Rattle.value_meaning.specs.Val.{Val, missing}
+use Rattle.value_meaning.specs.Val.{Val, missing, null, truth}
 use Rattle.block_meaning.specs.Tables.{Table}
 use Rattle.lane_base.specs.declared.lanes.Lanes.{Lanes}
 use Rattle.lane_base.specs.declared.lanes.Look.{Look}
@@ -53,3 +53,11 @@ pub record AreLegal (table : Table) (lanes : Lanes) : Type 0 where
 -- What each lane of the mask shows is legal under the table.
 pub record AreLegalIn (table : Table) (mask : ℕ) (lanes : Lanes) : Type 0 where
   pub lane : (i : ℕ) → i < 16 → has mask i ≡ true → IsLegal table (shown lanes i)
+
+-- what three tests show: NULL, true or false; where none holds, MISSING
+abbrev pub truth_as : (is_null is_true is_false : Bool) → Val
+truth_as is_null is_true is_false = cond is_null null (cond is_true (truth true) (cond is_false (truth false) missing))
+
+-- what two tests show: NULL, or a value; where none holds, MISSING
+abbrev pub one_as : (is_null is_one : Bool) → Val → Val
+one_as is_null is_one v = cond is_null null (cond is_one v missing)

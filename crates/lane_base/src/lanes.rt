@@ -52,8 +52,78 @@ pub enum Look<'b> {
 }
 
 impl<'b> Lanes<'b> {
-    ghost use Rattle.std.specs.Prelude.{◌≡◌, ◌<◌};
-    ghost use Rattle.lane_base.specs.Registers.{shown, seen};
+    ghost use Rattle.std.specs.Prelude.{◌≡◌, ◌<◌, ℕ, true, false, not, ◌&&◌, ◌||◌};
+    ghost use Rattle.value_meaning.specs.Val.{int, time};
+    ghost use Rattle.time_meaning.specs.Moments.{IsTime};
+    ghost use Rattle.block_meaning.specs.Tables.{Table};
+    ghost use Rattle.eval_meaning.specs.Logic.{is_missing, is_null};
+    ghost use Rattle.lane_base.specs.Bits.{has, AreApart};
+    ghost use Rattle.lane_base.specs.Shown.{IsLegal};
+    ghost use Rattle.lane_base.specs.Registers.{shown, seen, value_at, number_at, truth_as, one_as, AreLegal};
+
+    /// Lanes that are NULL, true or false. No lane is in two of the masks; one in none of them is MISSING.
+    #[inline(always)]
+    pub fn truths(null: LaneMask, yes: LaneMask, no: LaneMask) -> Lanes<'b>
+        requires { AreApart null.0 yes.0 no.0 }
+        ensures value { (table : Table) (i : ℕ) → i < 16 → value_at table result i ≡ truth_as (has null.0 i) (has yes.0 i) (has no.0 i) }
+        ensures legal { (table : Table) → AreLegal table result }
+    {
+        Lanes {
+            null,
+            yes,
+            no,
+            int: LaneMask(0),
+            time: LaneMask(0),
+            text: LaneMask(0),
+            tree: LaneMask(0),
+            nums: IntLanes { lanes: [0; 16] },
+            spans: SpanLanes { lanes: [&[]; 16] },
+        }
+    }
+
+    /// Lanes that are NULL or whole numbers. No lane is in both masks; one in neither is MISSING.
+    #[inline(always)]
+    pub fn ints(null: LaneMask, number: LaneMask, nums: IntLanes) -> Lanes<'b>
+        requires { (k : ℕ) → (has null.0 k && has number.0 k) ≡ false }
+        ensures value { (table : Table) (i : ℕ) → i < 16
+            → value_at table result i ≡ one_as (has null.0 i) (has number.0 i) (int (number_at nums.lanes i)) }
+        ensures legal { (table : Table) → AreLegal table result }
+    {
+        Lanes {
+            null,
+            yes: LaneMask(0),
+            no: LaneMask(0),
+            int: number,
+            time: LaneMask(0),
+            text: LaneMask(0),
+            tree: LaneMask(0),
+            nums,
+            spans: SpanLanes { lanes: [&[]; 16] },
+        }
+    }
+
+    /// Lanes that are NULL or times, in microseconds from 1970-01-01T00:00:00Z on. No lane is in both masks; one in
+    /// neither is MISSING. The times lie from the year 1 to the year 9999.
+    #[inline(always)]
+    pub fn times(null: LaneMask, moment: LaneMask, nums: IntLanes) -> Lanes<'b>
+        requires apart { (k : ℕ) → (has null.0 k && has moment.0 k) ≡ false }
+        requires range { (i : ℕ) → i < 16 → has moment.0 i ≡ true → IsTime (number_at nums.lanes i) }
+        ensures value { (table : Table) (i : ℕ) → i < 16
+            → value_at table result i ≡ one_as (has null.0 i) (has moment.0 i) (time (number_at nums.lanes i)) }
+        ensures legal { (table : Table) → AreLegal table result }
+    {
+        Lanes {
+            null,
+            yes: LaneMask(0),
+            no: LaneMask(0),
+            int: LaneMask(0),
+            time: moment,
+            text: LaneMask(0),
+            tree: LaneMask(0),
+            nums,
+            spans: SpanLanes { lanes: [&[]; 16] },
+        }
+    }
 
     /// What the lane, which is below 16, shows.
     pub fn look(&self, lane: u32) -> Look<'b>
@@ -83,5 +153,25 @@ impl<'b> Lanes<'b> {
             return Look::Tree(self.spans.lanes[at]);
         }
         Look::Missing
+    }
+
+    /// The lanes that aren't MISSING.
+    #[inline(always)]
+    pub fn present(&self) -> LaneMask
+        ensures { (table : Table) (i : ℕ) → i < 16 → IsLegal table (shown self.now i)
+            → has result.0 i ≡ not (is_missing (value_at table self.now i)) }
+    {
+        LaneMask(self.null.0 | self.solid().0)
+    }
+
+    /// The lanes that are neither MISSING nor NULL.
+    #[inline(always)]
+    pub fn solid(&self) -> LaneMask
+        ensures { (table : Table) (i : ℕ) → i < 16 → IsLegal table (shown self.now i)
+            → has result.0 i ≡ not (is_missing (value_at table self.now i) || is_null (value_at table self.now i)) }
+    {
+        LaneMask(
+            self.yes.0 | self.no.0 | self.int.0 | self.time.0 | self.text.0 | self.tree.0,
+        )
     }
 }

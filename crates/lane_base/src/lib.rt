@@ -5,7 +5,11 @@
 #![tactic(auto)]
 
 mod lanes;
+mod logic;
 mod mask;
+mod merge;
 
 pub use lanes::{IntLanes, Lanes, Look, SpanLanes};
+pub use logic::{and16, is16, not16, or16, true16};
 pub use mask::LaneMask;
+pub use merge::merge16;

@@ -1,4 +1,4 @@
-ghost use Rattle.std.specs.Prelude.{◌≡◌, ◌<◌, ℕ, ◌&&◌, ◌||◌, not};
+ghost use Rattle.std.specs.Prelude.{◌≡◌, ◌<◌, ℕ, true, false, ◌&&◌, ◌||◌, not};
 ghost use Rattle.lane_base.specs.Bits.{has};
 
 /// A set of lanes: bit `i` is lane `i`.
@@ -6,12 +6,57 @@ ghost use Rattle.lane_base.specs.Bits.{has};
 pub struct LaneMask(pub u16);
 
 impl LaneMask {
-    /// Whether the lane is in the mask.
+    /// The mask of no lane.
+    #[inline(always)]
+    #[tactic(auto, using(crate::proofs::BitLemmas::has_rules))]
+    pub fn none() -> LaneMask
+        ensures { (i : ℕ) → has result.0 i ≡ false }
+    {
+        LaneMask(0)
+    }
+
+    /// The mask of all sixteen lanes.
+    #[inline(always)]
+    #[tactic(auto, using(crate::proofs::BitLemmas::has_rules))]
+    pub fn all() -> LaneMask
+        ensures { (i : ℕ) → i < 16 → has result.0 i ≡ true }
+    {
+        LaneMask(u16::MAX)
+    }
+
+    /// Whether the lane, which is below 16, is in the mask.
     #[inline(always)]
     pub fn has(self, lane: u32) -> bool
         requires { lane < 16 }
         ensures { result ≡ has self.0 lane }
     {
         (self.0 >> lane) & 1 == 1
+    }
+
+    /// The lanes of both masks.
+    #[inline(always)]
+    #[tactic(auto, using(crate::proofs::BitLemmas::has_rules))]
+    pub fn and(self, other: LaneMask) -> LaneMask
+        ensures { (i : ℕ) → has result.0 i ≡ (has self.0 i && has other.0 i) }
+    {
+        LaneMask(self.0 & other.0)
+    }
+
+    /// The lanes of at least one of two masks.
+    #[inline(always)]
+    #[tactic(auto, using(crate::proofs::BitLemmas::has_rules))]
+    pub fn or(self, other: LaneMask) -> LaneMask
+        ensures { (i : ℕ) → has result.0 i ≡ (has self.0 i || has other.0 i) }
+    {
+        LaneMask(self.0 | other.0)
+    }
+
+    /// The lanes of the mask that aren't in the other.
+    #[inline(always)]
+    #[tactic(auto, using(crate::proofs::BitLemmas::has_rules))]
+    pub fn minus(self, other: LaneMask) -> LaneMask
+        ensures { (i : ℕ) → has result.0 i ≡ (has self.0 i && not (has other.0 i)) }
+    {
+        LaneMask(self.0 ^ (self.0 & other.0))
     }
 }
