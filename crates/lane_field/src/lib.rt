@@ -6,8 +6,11 @@
 
 mod cells;
 mod kinds;
+mod masks;
+mod scalars;
 
 
 pub use cells::CellLanes;
-pub use kinds::KindMasks;
+pub use kinds::{KindMasks, kinds16};
+pub use scalars::{bools16, ints16, micros16};
 

@@ -1,0 +1,6 @@
+pub mod Longer
+pub mod OwnTables
+pub mod Filled
+pub mod SetBits
+pub mod Steps
+pub mod KindOf
