@@ -4,3 +4,5 @@ pub mod Filled
 pub mod SetBits
 pub mod Steps
 pub mod KindOf
+pub mod Nested
+pub mod Putting

@@ -6,11 +6,11 @@
 
 mod cells;
 mod kinds;
+mod load;
 mod masks;
 mod scalars;
 
-
 pub use cells::CellLanes;
 pub use kinds::{KindMasks, kinds16};
+pub use load::{load16, texts16};
 pub use scalars::{bools16, ints16, micros16};
-
