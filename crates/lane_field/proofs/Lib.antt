@@ -6,3 +6,5 @@ pub mod Steps
 pub mod KindOf
 pub mod Nested
 pub mod Putting
+pub mod Shorter
+pub mod Names

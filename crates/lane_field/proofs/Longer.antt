@@ -9,7 +9,7 @@ use Rattle.block_meaning.specs.Laws.{HasFront}
 use Rattle.block_meaning.proofs.NestedReading.{cells_read}
 use Rattle.block_meaning.proofs.CellSteps.{is_cell_reads}
 
-here_or : (c : Bool) (t s : List ℕ) (o q : Option (List ℕ)) → (o ≡ Some s → q ≡ Some s) → cond c (Some t) o ≡ Some s → cond c (Some t) q ≡ Some s
+pub here_or : (c : Bool) (t s : List ℕ) (o q : Option (List ℕ)) → (o ≡ Some s → q ≡ Some s) → cond c (Some t) o ≡ Some s → cond c (Some t) q ≡ Some s
 here_or true t s o q f e = e
 here_or false t s o q f e = f e
 
@@ -47,10 +47,10 @@ mutual
   longer_pairs table more depth low (field name v fs) bytes c =
       (c.0, c.1, c.2, c.3, c.4, c.5, longer_text table more c.0 name c.6, c.7, longer_cell table more depth v c.2 c.8, longer_pairs table more depth (suc c.0) fs c.3 c.9)
 
-abbrev alone : Val → Option (Val × List ℕ)
+abbrev pub alone : Val → Option (Val × List ℕ)
 alone v = Some (v, [])
 
-read_alone : (table : Table) (bytes : List ℕ) (v : Val) → cell_to table 128 bytes ≡ alone v → (is_cell table bytes ≡ true) × (cell_value table bytes ≡ v)
+pub read_alone : (table : Table) (bytes : List ℕ) (v : Val) → cell_to table 128 bytes ≡ alone v → (is_cell table bytes ≡ true) × (cell_value table bytes ≡ v)
 unfolding is_cell cell_value
 read_alone table bytes v e = (ap ends_there e, ap value_read e)
 

@@ -9,6 +9,7 @@ mod kinds;
 mod load;
 mod masks;
 mod scalars;
+mod walks;
 
 pub use cells::CellLanes;
 pub use kinds::{KindMasks, kinds16};
