@@ -8,3 +8,6 @@ pub mod Nested
 pub mod Putting
 pub mod Shorter
 pub mod Names
+pub mod Numbers
+pub mod Parts
+pub mod Wholes

@@ -1,6 +1,6 @@
-ghost use Rattle.std.specs.Prelude.{◌≡◌, ◌<◌};
+ghost use Rattle.std.specs.Prelude.{◌≡◌, ◌<◌, ℕ, cond, nat_eq};
 ghost use Rattle.std.specs.Option.{option_map};
-ghost use Rattle.lane_field.specs.CellsOf.{cell_in, cell_within};
+ghost use Rattle.lane_field.specs.CellsOf.{cell_in, cell_within, no_cell};
 
 use ion_cells::Cell;
 use lane_base::LaneMask;
@@ -40,16 +40,21 @@ impl<'b> CellLanes<'b> {
 
     /// No cell in any lane.
     #[inline(always)]
-    pub(crate) fn none() -> CellLanes<'b> {
+    #[tactic(auto, unfolding(crate::specs::CellsOf::cell_in))]
+    pub(crate) fn none() -> CellLanes<'b>
+        ensures { (i : ℕ) → i < 16 → cell_in result i ≡ no_cell }
+    {
         CellLanes { cells: [None; 16] }
     }
 
-    /// Puts a cell into the lane, which is below 16.
+    /// Puts a cell or none into the lane, which is below 16.
     #[inline(always)]
-    pub(crate) fn put(&mut self, lane: u32, cell: Cell<'b>)
+    #[tactic(auto, using(crate::proofs::Putting::put_at), unfolding(crate::specs::CellsOf::cell_in))]
+    pub(crate) fn put(&mut self, lane: u32, cell: Option<Cell<'b>>)
         requires { lane < 16 }
+        ensures { (i : ℕ) → i < 16 → cell_in self.new i ≡ cond (nat_eq i lane) cell.entry (cell_in self.old i) }
     {
         let cells = &mut self.cells[..];
-        cells[lane as usize] = Some(cell);
+        cells[lane as usize] = cell;
     }
 }

@@ -5,6 +5,8 @@
 #![tactic(auto)]
 
 mod cells;
+mod find;
+mod item;
 mod kinds;
 mod load;
 mod masks;
