@@ -11,3 +11,4 @@ pub mod Names
 pub mod Numbers
 pub mod Parts
 pub mod Wholes
+pub mod Absent

@@ -14,6 +14,8 @@ mod scalars;
 mod walks;
 
 pub use cells::CellLanes;
+pub use find::find16;
+pub use item::item16;
 pub use kinds::{KindMasks, kinds16};
 pub use load::{load16, texts16};
 pub use scalars::{bools16, ints16, micros16};

@@ -13,7 +13,7 @@ returns-in-Some-clause-legal c table under =
 
 pub returns-in-Some-clause-value : goal.returns-in-Some-clause-value
 returns-in-Some-clause-value c table under =
-    item_value table c.whole-cell.result (c.whole-cell.ensures.of table under) c.in-Some.items c.args.place c.nth_item.result c.nth_item.ensures c.in-Some.ensures.values c.in-Some.ensures.last 
+    item_value table c.whole-cell.result (c.whole-cell.ensures.of table under) c.in-Some.items c.args.place c.nth_item.result c.nth_item.ensures c.in-Some.ensures.values c.in-Some.ensures.last
     ∙ ap (step_of (at c.args.place)) (c.whole-cell.ensures.same table)
 
 pub returns-in-None-clause-value : goal.returns-in-None-clause-value
