@@ -1,6 +1,8 @@
 -- A choice between two registers at one lane.
 use Rattle.std.proofs.Common.{◌≡◌, ◌<◌, ℕ, ℤ, List, refl, ap, ◌∙◌, sym, subst, Bool, true, false, cond, not, ◌&&◌, ◌||◌}
-use Rattle.value_meaning.specs.Val.{Val, missing}
+use Rattle.std.specs.Prelude.{if◌then◌else◌}
+use Rattle.value_meaning.specs.Val.{Val, missing, null}
+use Rattle.eval_meaning.specs.Logic.{is_missing, is_null, first_of}
 use Rattle.block_meaning.specs.Tables.{Table}
 use Rattle.lane_base.specs.declared.lanes.Lanes.{Lanes}
 use Rattle.lane_base.specs.Bits.{has, at_most_one}
@@ -49,3 +51,38 @@ pub legal-choice : (table : Table) (m p : Bool) (x v w : Shown) → x ≡ choice
 legal-choice table true true x v w e g h = subst (IsLegal table) (sym e) (g refl)
 legal-choice table true false x v w e g h = subst (IsLegal table) (sym e) (h refl)
 legal-choice table false p x v w e g h = subst (IsLegal table) (sym e) tt
+
+-- the first of two values
+not_not : (b : Bool) (v w : Val) → cond (not (not b)) v w ≡ (if b then v else w)
+not_not true v w = refl
+not_not false v w = refl
+
+first_val : (v w : Val) → cond (not (is_missing v || is_null v) || (is_null v && not (not (is_missing w)))) v w ≡ first_of v w
+first_val missing w = refl
+first_val null w = not_not (is_missing w) null w
+first_val v w = refl
+
+pub first_lane : (m solid nul present : Bool) (v w : Val) → (m ≡ true → solid ≡ not (is_missing v || is_null v)) → (m ≡ true → nul ≡ is_null v) → (m ≡ true → present ≡ not (is_missing w)) → under m (cond (solid || (nul && not present)) v w) ≡ under m (first_of v w)
+first_lane true solid nul present v w s n p =
+    ap (λ b. cond (b || (nul && not present)) v w) (s refl)
+    ∙ ap (λ b. cond (not (is_missing v || is_null v) || (b && not present)) v w) (n refl)
+    ∙ ap (λ b. cond (not (is_missing v || is_null v) || (is_null v && not b)) v w) (p refl)
+    ∙ first_val v w
+first_lane false solid nul present v w s n p = refl
+
+-- a register in the lanes of a mask
+and_true : (b : Bool) → (b && true) ≡ b
+and_true true = refl
+and_true false = refl
+
+and_false : (b : Bool) → (b && false) ≡ false
+and_false true = refl
+and_false false = refl
+
+pub kept_apart : (l : Lanes) (k : ℕ) (m : Bool) → at_most_one (has l.null.0 k && m) (has l.yes.0 k && m) (has l.no.0 k && m) (has l.int.0 k && m) (has l.time.0 k && m) (has l.text.0 k && m) (has l.tree.0 k && m) ≡ true
+kept_apart l k true = simp and_true (l.disjoint k)
+kept_apart l k false = simp and_false
+
+pub kept_lane : (l : Lanes) (k : ℕ) (m : Bool) → show_as (has l.null.0 k && m) (has l.yes.0 k && m) (has l.no.0 k && m) (has l.int.0 k && m) (has l.time.0 k && m) (has l.text.0 k && m) (has l.tree.0 k && m) (number_at l.nums.lanes k) (span_at l.spans.lanes k) ≡ choice m true (shown l k) (shown l k)
+kept_lane l k true = simp and_true
+kept_lane l k false = simp and_false

@@ -123,3 +123,11 @@ null_or_time true true h = cc
 null_or_time true false h = refl
 null_or_time false true h = refl
 null_or_time false false h = refl
+
+pub one_text : (x : Bool) → at_most_one false false false false false x false ≡ true
+one_text true = refl
+one_text false = refl
+
+pub one_tree : (r : Bool) → at_most_one false false false false false false r ≡ true
+one_tree true = refl
+one_tree false = refl

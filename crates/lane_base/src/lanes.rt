@@ -37,7 +37,7 @@ pub struct Lanes<'b> {
 }
 
 /// What one lane shows.
-#[derive(Clone, Copy, Debug)]
+#[derive(Clone, Copy, Debug, PartialEq, Eq)]
 pub enum Look<'b> {
     Missing,
     Null,
@@ -53,13 +53,15 @@ pub enum Look<'b> {
 
 impl<'b> Lanes<'b> {
     ghost use Rattle.std.specs.Prelude.{◌≡◌, ◌<◌, ℕ, true, false, not, ◌&&◌, ◌||◌};
-    ghost use Rattle.value_meaning.specs.Val.{int, time};
+    ghost use Rattle.value_meaning.specs.Val.{int, time, text};
+    ghost use Rattle.std.specs.Str.{IsUtf8};
     ghost use Rattle.time_meaning.specs.Moments.{IsTime};
     ghost use Rattle.block_meaning.specs.Tables.{Table};
     ghost use Rattle.eval_meaning.specs.Logic.{is_missing, is_null};
     ghost use Rattle.lane_base.specs.Bits.{has, AreApart};
-    ghost use Rattle.lane_base.specs.Shown.{IsLegal};
-    ghost use Rattle.lane_base.specs.Registers.{shown, seen, value_at, number_at, truth_as, one_as, AreLegal};
+    ghost use Rattle.block_meaning.specs.CellReading.{cell_value};
+    ghost use Rattle.lane_base.specs.Shown.{IsLegal, IsTree};
+    ghost use Rattle.lane_base.specs.Registers.{shown, seen, value_at, under, number_at, span_at, truth_as, one_as, AreLegal};
 
     /// Lanes that are NULL, true or false. No lane is in two of the masks; one in none of them is MISSING.
     #[inline(always)]
@@ -103,14 +105,14 @@ impl<'b> Lanes<'b> {
     }
 
     /// Lanes that are NULL or times, in microseconds from 1970-01-01T00:00:00Z on. No lane is in both masks; one in
-    /// neither is MISSING. The times lie from the year 1 to the year 9999.
+    /// neither is MISSING.
     #[inline(always)]
     pub fn times(null: LaneMask, moment: LaneMask, nums: IntLanes) -> Lanes<'b>
-        requires apart { (k : ℕ) → (has null.0 k && has moment.0 k) ≡ false }
-        requires range { (i : ℕ) → i < 16 → has moment.0 i ≡ true → IsTime (number_at nums.lanes i) }
+        requires { (k : ℕ) → (has null.0 k && has moment.0 k) ≡ false }
         ensures value { (table : Table) (i : ℕ) → i < 16
             → value_at table result i ≡ one_as (has null.0 i) (has moment.0 i) (time (number_at nums.lanes i)) }
-        ensures legal { (table : Table) → AreLegal table result }
+        ensures legal { (table : Table) → ((i : ℕ) → i < 16 → has moment.0 i ≡ true → IsTime (number_at nums.lanes i))
+            → AreLegal table result }
     {
         Lanes {
             null,
@@ -122,6 +124,48 @@ impl<'b> Lanes<'b> {
             tree: LaneMask(0),
             nums,
             spans: SpanLanes { lanes: [&[]; 16] },
+        }
+    }
+
+    /// Lanes that are texts; one that isn't in the mask is MISSING.
+    #[inline(always)]
+    pub fn texts(string: LaneMask, spans: SpanLanes<'b>) -> Lanes<'b>
+        ensures value { (table : Table) (i : ℕ) → i < 16
+            → value_at table result i ≡ under (has string.0 i) (text (span_at spans.entry.lanes i)) }
+        ensures legal { (table : Table) → ((i : ℕ) → i < 16 → has string.0 i ≡ true → IsUtf8 (span_at spans.entry.lanes i))
+            → AreLegal table result }
+    {
+        Lanes {
+            null: LaneMask(0),
+            yes: LaneMask(0),
+            no: LaneMask(0),
+            int: LaneMask(0),
+            time: LaneMask(0),
+            text: string,
+            tree: LaneMask(0),
+            nums: IntLanes { lanes: [0; 16] },
+            spans,
+        }
+    }
+
+    /// Lanes that are lists or structs, by their cells; one that isn't in the mask is MISSING.
+    #[inline(always)]
+    pub fn trees(nested: LaneMask, spans: SpanLanes<'b>) -> Lanes<'b>
+        ensures value { (table : Table) (i : ℕ) → i < 16
+            → value_at table result i ≡ under (has nested.0 i) (cell_value table (span_at spans.entry.lanes i)) }
+        ensures legal { (table : Table) → ((i : ℕ) → i < 16 → has nested.0 i ≡ true → IsTree table (span_at spans.entry.lanes i))
+            → AreLegal table result }
+    {
+        Lanes {
+            null: LaneMask(0),
+            yes: LaneMask(0),
+            no: LaneMask(0),
+            int: LaneMask(0),
+            time: LaneMask(0),
+            text: LaneMask(0),
+            tree: nested,
+            nums: IntLanes { lanes: [0; 16] },
+            spans,
         }
     }
 

@@ -4,12 +4,16 @@
 //! argument; in every other lane its result is MISSING. No kernel takes memory, and none can refuse.
 #![tactic(auto)]
 
+mod constant;
 mod lanes;
 mod logic;
 mod mask;
 mod merge;
+#[cfg(test)]
+mod tests;
 
+pub use constant::const16;
 pub use lanes::{IntLanes, Lanes, Look, SpanLanes};
 pub use logic::{and16, is16, not16, or16, true16};
 pub use mask::LaneMask;
-pub use merge::merge16;
+pub use merge::{first16, keep16, merge16};

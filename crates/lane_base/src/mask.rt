@@ -1,4 +1,5 @@
-ghost use Rattle.std.specs.Prelude.{◌≡◌, ◌<◌, ℕ, true, false, ◌&&◌, ◌||◌, not};
+ghost use Rattle.std.specs.Prelude.{◌≡◌, ◌<◌, ◌↔◌, ℕ, true, false, IsTrue, ◌&&◌, ◌||◌, not, count_by};
+ghost use Rattle.std.specs.List.{range_with_len};
 ghost use Rattle.lane_base.specs.Bits.{has};
 
 /// A set of lanes: bit `i` is lane `i`.
@@ -58,5 +59,21 @@ impl LaneMask {
         ensures { (i : ℕ) → has result.0 i ≡ (has self.0 i && not (has other.0 i)) }
     {
         LaneMask(self.0 ^ (self.0 & other.0))
+    }
+
+    /// How many lanes are in the mask.
+    #[inline(always)]
+    pub fn count(self) -> u32
+        ensures { result ≡ count_by (has self.0) (range_with_len 0 16) }
+    {
+        self.0.count_ones()
+    }
+
+    /// Whether no lane is in the mask.
+    #[inline(always)]
+    pub fn is_none(self) -> bool
+        ensures { IsTrue result ↔ ((i : ℕ) → i < 16 → has self.0 i ≡ false) }
+    {
+        self.0 == 0
     }
 }

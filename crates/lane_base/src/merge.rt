@@ -30,6 +30,36 @@ pub fn merge16<'b>(pick: LaneMask, a: &Lanes<'b>, b: &Lanes<'b>, m: LaneMask) ->
     }
 }
 
+/// `COALESCE(a, b)` in the lanes of `m`: `a` where it is neither NULL nor MISSING, else `b`, but NULL where `b` is MISSING
+/// and `a` is NULL.
+pub fn first16<'b>(a: &Lanes<'b>, b: &Lanes<'b>, m: LaneMask) -> Lanes<'b>
+    ensures value { (table : Table) → AreLegalIn table m.0 a.now → AreLegalIn table m.0 b.now → (i : ℕ) → i < 16
+        → value_at table result i ≡ under (has m.0 i) (first_of (value_at table a.now i) (value_at table b.now i)) }
+    ensures legal { (table : Table) → AreLegalIn table m.0 a.now → AreLegalIn table m.0 b.now → AreLegal table result }
+{
+    let solid = a.solid();
+    let present = b.present();
+    merge16(solid.or(a.null.minus(present)), a, b, m)
+}
+
+/// `a` in the lanes of `m`.
+pub fn keep16<'b>(a: &Lanes<'b>, m: LaneMask) -> Lanes<'b>
+    ensures value { (table : Table) (i : ℕ) → i < 16 → value_at table result i ≡ under (has m.0 i) (value_at table a.now i) }
+    ensures legal { (table : Table) → AreLegalIn table m.0 a.now → AreLegal table result }
+{
+    Lanes {
+        null: LaneMask(a.null.0 & m.0),
+        yes: LaneMask(a.yes.0 & m.0),
+        no: LaneMask(a.no.0 & m.0),
+        int: LaneMask(a.int.0 & m.0),
+        time: LaneMask(a.time.0 & m.0),
+        text: LaneMask(a.text.0 & m.0),
+        tree: LaneMask(a.tree.0 & m.0),
+        nums: a.nums,
+        spans: a.spans,
+    }
+}
+
 // The numbers of `a` in the lanes of `pick`, and those of `b` in the others.
 fn pick_nums(pick: LaneMask, a: &IntLanes, b: &IntLanes) -> IntLanes
     ensures { (k : ℕ) → k < 16 → number_at result.lanes k ≡ cond (has pick.0 k) (number_at a.now.lanes k) (number_at b.now.lanes k) }

@@ -1,0 +1,7 @@
+use Rattle.lane_base.specs.Bits.{has}
+use Rattle.lane_base.proofs.BitLemmas.{has-zero}
+use Rattle.lane_base.proofs.LaneKinds.{one_text}
+use Rattle.lane_base.proofs.lanes.Lanes.texts.Goals as goal
+
+pub invariant_of-result : goal.invariant_of-result
+invariant_of-result c = record { disjoint = λ k. simp has-zero (one_text (has c.args.string.0 k)) }
