@@ -41,7 +41,7 @@ impl<'b> CellLanes<'b> {
     /// No cell in any lane.
     #[inline(always)]
     #[tactic(auto, unfolding(crate::specs::CellsOf::cell_in))]
-    pub(crate) fn none() -> CellLanes<'b>
+    pub fn none() -> CellLanes<'b>
         ensures { (i : ℕ) → i < 16 → cell_in result i ≡ no_cell }
     {
         CellLanes { cells: [None; 16] }
@@ -50,7 +50,7 @@ impl<'b> CellLanes<'b> {
     /// Puts a cell or none into the lane, which is below 16.
     #[inline(always)]
     #[tactic(auto, using(crate::proofs::Putting::put_at), unfolding(crate::specs::CellsOf::cell_in))]
-    pub(crate) fn put(&mut self, lane: u32, cell: Option<Cell<'b>>)
+    pub fn put(&mut self, lane: u32, cell: Option<Cell<'b>>)
         requires { lane < 16 }
         ensures { (i : ℕ) → i < 16 → cell_in self.new i ≡ cond (nat_eq i lane) cell.entry (cell_in self.old i) }
     {

@@ -11,6 +11,8 @@ mod kinds;
 mod load;
 mod masks;
 mod scalars;
+#[cfg(test)]
+mod tests;
 mod walks;
 
 pub use cells::CellLanes;

@@ -15,6 +15,7 @@ ghost use Rattle.lane_base.specs.Shown as to;
 ghost use Rattle.lane_base.specs.Registers.{seen, shown, value_at, number_at, span_at, AreLegal};
 ghost use Rattle.lane_field.specs.CellsOf.{cell_in, cell_within, denoted, IsCellOf, AreCellsOf};
 ghost use Rattle.lane_field.specs.Loaded.{TextsAre};
+ghost use Rattle.lane_field.specs.Steps.{AreUnder};
 
 use crate::cells::CellLanes;
 use crate::masks::and_lane;
@@ -194,7 +195,9 @@ pub fn load16<'b>(c: &CellLanes<'b>, table: &SymTab<'b>, m: LaneMask) -> Lanes<'
     requires { AreCellsOf table.now m.0 c.now }
     ensures value { (i : ℕ) → i < 16 → value_at table.now result i ≡ denoted table.now (cell_within m.0 c.now i) }
     ensures legal { AreLegal table.now result }
+    ensures under { (mask : ℕ) → AreUnder table.now mask result }
 {
+    let _last = table.last();
     let mut lanes = all_missing();
     for i in 0..16u32 {
         put(&mut lanes, i, look_in(c.get_in(i, m), table));
