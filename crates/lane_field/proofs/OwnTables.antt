@@ -1,9 +1,11 @@
 -- A cell of a table, under one of the tables that its readers speak of.
-use Rattle.std.proofs.Common.{◌≡◌, ℕ, ◌-◌, ◌+◌, ◌≤◌, List, [], ◌++◌, length, Bool, true, false, cond, ◌<◌, Option, Some, refl, sym, ap, subst, ◌∙◌, arith}
+use Rattle.std.proofs.Common.{◌≡◌, ℕ, ◌-◌, ◌+◌, ◌≤◌, List, [], ◌++◌, length, Bool, true, false, cond, ◌<◌, Option, None, Some, refl, sym, ap, subst, ◌∙◌, arith}
 use Rattle.std.specs.Prelude.{replicate, IfSome}
 use Rattle.std.proofs.lemmas.List.{length-append, length-replicate}
 use Rattle.value_meaning.specs.Val.{Val}
 use Rattle.block_meaning.specs.Tables.{Table}
+use Rattle.block_meaning.specs.CellReading.{blank_table}
+use Rattle.block_meaning.proofs.LastSymbol.{same_cell, length_blank}
 use Rattle.ion_cells.specs.declared.cell.Cell.{Cell}
 use Rattle.ion_cells.specs.Shown.{cell_bytes, cell_last, shown, Fits}
 use Rattle.lane_field.specs.CellsOf.{IsCellOf, denoted, AreCellsOf, cell_in, cell_within, no_cell}
@@ -46,3 +48,17 @@ within table mask lanes h i k = go (has mask i) refl
     go : (b : Bool) → has mask i ≡ b → IfSome (cond b (cell_in lanes i) no_cell) (IsCellOf table)
     go true e = h.lane i k e
     go false e = tt
+
+-- a cell that fits a table is one of it
+fits_of : (table : Table) (cell : Cell) → Fits table cell → IsCellOf table cell
+unfolding cell_bytes cell_last
+fits_of table cell h =
+    let same : length (blank_table cell.last) ≡ length table = length_blank cell.last ∙ sym h in
+    record {
+      legal = sym (same_cell (blank_table cell.last) table cell.bytes.now same) ∙ cell.legal;
+      few = omega (arith, h);
+    }
+
+pub some_fits : (o : Option Cell) → IfSome o (λ c. (table : Table) → Fits table c → IsCellOf table c)
+some_fits None = tt
+some_fits (Some cell) = λ table h. fits_of table cell h

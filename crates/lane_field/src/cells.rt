@@ -1,6 +1,8 @@
-ghost use Rattle.std.specs.Prelude.{◌≡◌, ◌<◌, ℕ, cond, nat_eq};
+ghost use Rattle.std.specs.Prelude.{◌≡◌, ◌<◌, ℕ, IfSome, cond, nat_eq};
 ghost use Rattle.std.specs.Option.{option_map};
-ghost use Rattle.lane_field.specs.CellsOf.{cell_in, cell_within, no_cell};
+ghost use Rattle.block_meaning.specs.Tables.{Table};
+ghost use Rattle.ion_cells.specs.Shown.{Fits};
+ghost use Rattle.lane_field.specs.CellsOf.{cell_in, cell_within, no_cell, IsCellOf};
 
 use ion_cells::Cell;
 use lane_base::LaneMask;
@@ -47,12 +49,13 @@ impl<'b> CellLanes<'b> {
         CellLanes { cells: [None; 16] }
     }
 
-    /// Puts a cell or none into the lane, which is below 16.
+    /// Puts a cell or none into the lane, which is below 16. A cell that fits a table is one of it.
     #[inline(always)]
-    #[tactic(auto, using(crate::proofs::Putting::put_at), unfolding(crate::specs::CellsOf::cell_in))]
+    #[tactic(auto, using(crate::proofs::Putting::put_at, crate::proofs::OwnTables::some_fits), unfolding(crate::specs::CellsOf::cell_in))]
     pub fn put(&mut self, lane: u32, cell: Option<Cell<'b>>)
         requires { lane < 16 }
-        ensures { (i : ℕ) → i < 16 → cell_in self.new i ≡ cond (nat_eq i lane) cell.entry (cell_in self.old i) }
+        ensures cells { (i : ℕ) → i < 16 → cell_in self.new i ≡ cond (nat_eq i lane) cell.entry (cell_in self.old i) }
+        ensures fits { IfSome cell.entry (λ c. (table : Table) → Fits table c → IsCellOf table c) }
     {
         let cells = &mut self.cells[..];
         cells[lane as usize] = cell;

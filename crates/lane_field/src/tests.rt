@@ -1,5 +1,6 @@
-ghost use Rattle.std.specs.Prelude.{◌≡◌, ◌<◌, ◌^◌, ℕ, length, IfSome};
-ghost use Rattle.lane_field.specs.CellsOf.{cell_in, IsCellOf, AreCellsOf};
+ghost use Rattle.std.specs.Prelude.{ℕ, IfSome};
+ghost use Rattle.ion_cells.specs.Shown.{Fits};
+ghost use Rattle.lane_field.specs.CellsOf.{AreCellsOf};
 
 use crate::{CellLanes, bools16, find16, ints16, item16, kinds16, load16, micros16, texts16};
 use ion_cells::{Cell, cell_at};
@@ -31,16 +32,13 @@ const ROWS: [&[u8]; 11] = [
 
 /// The cell that the bytes begin with, if there is one.
 fn checked<'b>(row: &'b [u8], table: &SymTab<'b>) -> Option<Cell<'b>>
-    ensures { IfSome result (IsCellOf table.now) }
+    ensures { IfSome result (Fits table.now) }
 {
     if row.len() > 1000 {
         return None;
     }
     match cell_at(row, 0, table.last()) {
-        Ok(cell) => {
-            let _bytes = cell.bytes();
-            Some(cell)
-        }
+        Ok(cell) => Some(cell),
         Err(_) => None,
     }
 }
@@ -206,8 +204,10 @@ fn reads_the_parts_of_cells(rt: HostRuntime) -> Result<(), Fail> {
     assert_eq!(rt; ints16(&cells, m).lanes[3], 5);
     assert_eq!(rt; micros16(&cells, m).lanes[4], 1_700_000_000_000_000);
     let texts = texts16(&cells, &table, m);
-    assert!(rt; texts.lanes[5] == b"b".as_slice(), "a symbol");
-    assert!(rt; texts.lanes[6] == b"y".as_slice(), "a text");
+    let symbol = texts.lanes[5];
+    assert!(rt; symbol == b"b".as_slice(), "a symbol");
+    let text = texts.lanes[6];
+    assert!(rt; text == b"y".as_slice(), "a text");
     assert!(rt; cells.get(8).is_some(), "a cell");
     assert!(rt; cells.get(9).is_none(), "no cell");
     Ok(())
