@@ -1,10 +1,10 @@
 -- A name that the table lacks is in no struct under it.
-use Rattle.std.proofs.Common.{◌≡◌, ℕ, ◌<◌, Bool, true, false, cond, List, [], Option, Some, None, refl, sym, ap, subst, ◌∙◌}
+use Rattle.std.proofs.Common.{◌≡◌, ℕ, ◌<◌, Bool, true, false, cond, List, [], Option, Some, None, refl, sym, ap, subst}
 use Rattle.std.specs.Prelude.{unwrap_or}
-use Rattle.value_meaning.specs.Val.{Val, missing, null, truth, int, time, text, list, struct, pairs}
+use Rattle.value_meaning.specs.Val.{Val, missing, null, truth, int, time, text, list, struct}
 use Rattle.block_meaning.specs.Tables.{Table, text_of}
 use Rattle.block_meaning.specs.Cells.{IsCell}
-use Rattle.block_meaning.specs.CellReading.{is_cell, cell_value}
+use Rattle.block_meaning.specs.CellReading.{cell_value}
 use Rattle.block_meaning.proofs.NestedReading.{cells_read}
 use Rattle.block_meaning.proofs.CellSteps.{is_cell_reads}
 use Rattle.query_meaning.specs.Tree.{name}

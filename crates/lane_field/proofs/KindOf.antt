@@ -1,5 +1,5 @@
 -- The kind of a cell, under each table of the cell.
-use Rattle.std.proofs.Common.{◌≡◌, Option, Some, Bool, subst, sym, ap, ◌∙◌}
+use Rattle.std.proofs.Common.{◌≡◌, Option, Some, sym, ap, ◌∙◌}
 use Rattle.std.specs.Prelude.{IfSome}
 use Rattle.block_meaning.specs.Tables.{Table}
 use Rattle.ion_cells.specs.declared.cell.Cell.{Cell}

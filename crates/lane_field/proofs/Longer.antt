@@ -1,6 +1,5 @@
 -- A cell under a table is one under each longer table, of the same value.
-use Rattle.std.proofs.Common.{◌≡◌, ◌⊎◌, ℕ, suc, pos, negsuc, Bool, true, false, cond, List, [], ◌∷◌, ◌++◌, Option, Some, None, eqb, refl, sym, subst, ap, ◌∙◌, inl, inr}
-use Rattle.std.proofs.lemmas.List.{append-nil}
+use Rattle.std.proofs.Common.{◌≡◌, ℕ, suc, pos, negsuc, Bool, true, false, cond, List, [], ◌∷◌, ◌++◌, Option, Some, eqb, ap, inl, inr}
 use Rattle.value_meaning.specs.Val.{Val, Vals, Fields, missing, null, truth, int, time, text, list, struct, no_vals, val, no_fields, field}
 use Rattle.block_meaning.specs.Tables.{Table, text_from, text_of}
 use Rattle.block_meaning.specs.Cells.{IsCell, AreCells, ArePairs}

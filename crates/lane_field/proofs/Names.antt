@@ -1,10 +1,10 @@
 -- The pair of a name, among pairs whose labels rise.
-use Rattle.std.proofs.Common.{◌≡◌, ◌≢◌, ℕ, suc, ◌+◌, ◌-◌, ◌<◌, ◌≤◌, Bool, true, false, cond, List, [], ◌∷◌, length, Option, Some, None, nat_eq, refl, sym, ap, ◌∙◌, arith}
+use Rattle.std.proofs.Common.{◌≡◌, ◌≢◌, ℕ, suc, ◌<◌, ◌≤◌, Bool, true, false, cond, List, [], ◌∷◌, length, Option, Some, None, nat_eq, refl, sym, ap, ◌∙◌, arith}
 use Rattle.std.specs.Prelude.{unwrap_or}
 use Rattle.std.specs.Cmp.Lexicographic.{pointwise, same_text, other_text}
 use Rattle.value_meaning.specs.Val.{Val, Fields, no_fields, field, pairs, fields}
 use Rattle.value_meaning.specs.Pairs.{value_of}
-use Rattle.block_meaning.specs.Tables.{Table, text_of, last_symbol}
+use Rattle.block_meaning.specs.Tables.{Table, text_of}
 use Rattle.block_meaning.specs.Cells.{ArePairs}
 use Rattle.block_meaning.specs.CellReading.{cell_to, pairs_by}
 use Rattle.block_meaning.proofs.NestedReading.{reads_to, pairs_take}
@@ -13,7 +13,7 @@ use Rattle.ion_cells.specs.declared.iterators.Fields.{Fields as Left}
 use Rattle.ion_cells.specs.Standing.{HasLast}
 use Rattle.ion_cells.specs.Left.{pairs_of, pairs_read, name_of}
 use Rattle.ion_cells.specs.Iterating.{fields_last, fields_low, pairs_left}
-use Rattle.lane_field.specs.Longest.{longest, fields_longest}
+use Rattle.lane_field.specs.Longest.{fields_longest}
 use Rattle.lane_field.specs.Walking.{IsOnlyNumber}
 
 pub value_same : (name : List ℕ) (p : List ℕ × Val) (ps : List (List ℕ × Val)) → p.0 ≡ name → value_of name (p ∷ ps) ≡ Some p.1

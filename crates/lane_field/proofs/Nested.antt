@@ -1,6 +1,6 @@
 -- What lists, structs and nulls denote.
-use Rattle.std.proofs.Common.{◌≡◌, ◌⊎◌, Bool, true, refl, sym, subst, ap, ◌∙◌, List, ℕ, inl, inr}
-use Rattle.value_meaning.specs.Val.{Val, missing, null, list, struct}
+use Rattle.std.proofs.Common.{◌≡◌, Bool, true, sym, subst, ap, ◌∙◌, List, ℕ, inl, inr}
+use Rattle.value_meaning.specs.Val.{Val, null}
 use Rattle.block_meaning.specs.Tables.{Table}
 use Rattle.block_meaning.specs.Cells.{IsCell}
 use Rattle.block_meaning.specs.CellReading.{is_cell, cell_value}

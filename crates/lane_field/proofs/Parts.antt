@@ -1,11 +1,11 @@
 -- The parts of a cell of a table are cells of the table, and which values they have.
-use Rattle.std.proofs.Common.{◌≡◌, ◌≢◌, ◌⊎◌, ℕ, suc, ◌+◌, ◌-◌, ◌<◌, ◌≤◌, max, Bool, true, false, List, [], ◌∷◌, ◌++◌, length, Option, Some, None, refl, sym, ap, subst, ◌∙◌, arith}
+use Rattle.std.proofs.Common.{◌≡◌, ℕ, suc, ◌+◌, ◌-◌, ◌<◌, ◌≤◌, true, List, [], ◌++◌, length, Option, Some, None, refl, sym, ap, subst, ◌∙◌, arith}
 use Rattle.std.specs.Prelude.{replicate, IfSome, unwrap_or, slice_get}
-use Rattle.std.specs.Option.{option_map, option_and_then}
+use Rattle.std.specs.Option.{option_map}
 use Rattle.std.proofs.lemmas.List.{append-nil, length-replicate}
-use Rattle.value_meaning.specs.Val.{Val, Vals, Fields, missing, null, truth, int, time, text, list, struct, no_fields, field, items, pairs, vals, fields}
+use Rattle.value_meaning.specs.Val.{Val, Fields, missing, null, truth, int, time, text, list, struct, no_fields, field, items, pairs, vals, fields}
 use Rattle.value_meaning.specs.Pairs.{value_of}
-use Rattle.block_meaning.specs.Tables.{Table, text_of, TextsRise}
+use Rattle.block_meaning.specs.Tables.{Table}
 use Rattle.block_meaning.specs.Cells.{IsCell}
 use Rattle.block_meaning.specs.CellReading.{is_cell, cell_value}
 use Rattle.block_meaning.proofs.NestedReading.{cells_read}
@@ -26,7 +26,7 @@ use Rattle.lane_field.specs.Walking.{IsOnlyNumber, GivesItem, GivesPair}
 use Rattle.lane_field.specs.Steps.{IsNamed}
 use Rattle.lane_field.proofs.Longer.{longer_is, longer_text, read_alone}
 use Rattle.lane_field.proofs.Shorter.{shorter_cell, shorter_text}
-use Rattle.lane_field.proofs.OwnTables.{filled, length_filled}
+use Rattle.lane_field.proofs.OwnTables.{length_filled}
 use Rattle.lane_field.proofs.Numbers.{one_number}
 
 pub record IsPart (table : Table) (item : Cell) (v : Val) : Type 0 where

@@ -1,5 +1,5 @@
 -- One more lane in a mask.
-use Rattle.std.proofs.Common.{◌≡◌, ◌≢◌, ℕ, ◌<◌, ◌*◌, ◌%◌, ◌^◌, refl, ap, ◌∙◌, sym, arith, true, false, nat_eq, bit_or, ⊎_elim}
+use Rattle.std.proofs.Common.{◌≡◌, ◌≢◌, ℕ, ◌<◌, ◌*◌, ◌%◌, ◌^◌, ap, arith, true, false, nat_eq, bit_or, ⊎_elim}
 use Rattle.std.specs.Prelude.{◌||◌}
 use Rattle.std.specs.Int.{w16}
 use Rattle.std.proofs.lemmas.Bool.{cases_eq}

@@ -1,5 +1,5 @@
 -- A cell under a table that is filled up with one long text is one under the table alone, where its value has no text so long.
-use Rattle.std.proofs.Common.{◌≡◌, ◌⊎◌, ℕ, zero, suc, max, ◌<◌, ◌≤◌, pos, negsuc, Bool, true, false, cond, List, [], ◌∷◌, ◌++◌, length, Option, Some, None, eqb, refl, sym, ap, ◌∙◌, inl, inr, arith}
+use Rattle.std.proofs.Common.{◌≡◌, ℕ, zero, suc, ◌<◌, ◌≤◌, pos, negsuc, List, [], ◌∷◌, ◌++◌, length, Some, eqb, ap, inl, inr, arith}
 use Rattle.std.specs.Prelude.{replicate}
 use Rattle.value_meaning.specs.Val.{Val, Vals, Fields, missing, null, truth, int, time, text, list, struct, no_vals, val, no_fields, field}
 use Rattle.block_meaning.specs.Tables.{Table, text_from, text_of}

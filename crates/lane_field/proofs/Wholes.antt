@@ -1,7 +1,7 @@
 -- Bytes that are a cell under a table whose numbers have 32 bits.
-use Rattle.std.proofs.Common.{◌≡◌, ℕ, ◌+◌, ◌-◌, ◌<◌, ◌≤◌, ◌^◌, true, List, [], ◌++◌, length, sym, ap, ◌∙◌, arith}
+use Rattle.std.proofs.Common.{◌≡◌, ℕ, ◌+◌, ◌-◌, ◌≤◌, ◌^◌, true, List, [], length, sym, ap, ◌∙◌, arith}
 use Rattle.std.specs.Prelude.{replicate}
-use Rattle.block_meaning.specs.Tables.{Table, last_symbol}
+use Rattle.block_meaning.specs.Tables.{Table}
 use Rattle.block_meaning.specs.CellReading.{is_cell, cell_value, blank_table}
 use Rattle.block_meaning.proofs.LastSymbol.{same_cell, length_blank}
 use Rattle.ion_cells.specs.declared.cell.Cell.{Cell}

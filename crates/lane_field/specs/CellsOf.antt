@@ -1,5 +1,5 @@
 -- Lanes of cells, and what they denote under a symbol table.
-use Rattle.std.specs.Prelude.{◌≡◌, ◌<◌, ◌≤◌, ◌-◌, ℕ, Bool, true, false, List, length, Option, None, Some, IfSome, cond, slice_index_or}
+use Rattle.std.specs.Prelude.{◌≡◌, ◌<◌, ◌≤◌, ◌-◌, ℕ, true, length, Option, None, Some, IfSome, cond, slice_index_or}
 use Rattle.value_meaning.specs.Val.{Val, missing}
 use Rattle.block_meaning.specs.Tables.{Table}
 use Rattle.block_meaning.specs.CellReading.{is_cell}

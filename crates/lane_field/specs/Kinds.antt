@@ -1,5 +1,5 @@
 -- The lanes whose cells are of a kind.
-use Rattle.std.specs.Prelude.{◌≡◌, ◌<◌, ◌&&◌, ℕ, Bool, false, Option, None, Some, IfSome, nat_eq}
+use Rattle.std.specs.Prelude.{◌≡◌, ◌<◌, ℕ, Bool, false, Option, None, Some, nat_eq}
 use Rattle.block_meaning.specs.Tables.{Table}
 use Rattle.ion_cells.specs.declared.cell.Cell.{Cell}
 use Rattle.ion_cells.specs.declared.kind.Kind.{Kind}
@@ -9,7 +9,7 @@ use Rattle.ion_cells.specs.Shown.{shown, is_symbol_cell}
 use Rattle.lane_base.specs.Bits.{has}
 use Rattle.lane_field.specs.declared.kinds.KindMasks.{KindMasks}
 use Rattle.lane_field.specs.declared.cells.CellLanes.{CellLanes}
-use Rattle.lane_field.specs.CellsOf.{cell_within, AreCellsOf, IsCellOf}
+use Rattle.lane_field.specs.CellsOf.{cell_within, AreCellsOf}
 
 -- the kinds by number
 abbrev pub rank : Kind → ℕ

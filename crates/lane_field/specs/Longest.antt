@@ -1,5 +1,5 @@
 -- A bound on the texts within a value.
-use Rattle.std.specs.Prelude.{ℕ, suc, max, List, length}
+use Rattle.std.specs.Prelude.{ℕ, suc, max, length}
 use Rattle.value_meaning.specs.Val.{Val, Vals, Fields, missing, null, truth, int, time, text, list, struct, no_vals, val, no_fields, field}
 
 -- a number above the length of each text and name in a value

@@ -1,5 +1,5 @@
 -- One step from the values of lanes to their parts.
-use Rattle.std.specs.Prelude.{◌≡◌, ◌<◌, ◌^◌, ℕ, List, Bool, true, false, Option, None, Some, IfSome}
+use Rattle.std.specs.Prelude.{◌≡◌, ◌<◌, ◌^◌, ℕ, List, true, false, Option, None, Some, IfSome}
 use Rattle.block_meaning.specs.Tables.{Table, last_symbol, text_of, TextsRise}
 use Rattle.block_meaning.specs.CellReading.{is_cell}
 use Rattle.query_meaning.specs.Tree.{Step, name, at}

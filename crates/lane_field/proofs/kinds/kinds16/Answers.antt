@@ -1,7 +1,6 @@
-use Rattle.std.proofs.Common.{◌≡◌, arith, ℕ}
-use Rattle.lane_base.specs.Bits.{has}
+use Rattle.std.proofs.Common.{arith}
 use Rattle.lane_field.specs.CellsOf.{cell_within}
-use Rattle.lane_field.specs.Kinds.{mask_of, is_of_kind}
+use Rattle.lane_field.specs.Kinds.{is_of_kind}
 use Rattle.lane_field.proofs.OwnTables.{within}
 use Rattle.lane_field.proofs.Steps.{next_lane}
 use Rattle.lane_field.proofs.kinds.kinds16.Goals as goal

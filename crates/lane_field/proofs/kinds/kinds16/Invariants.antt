@@ -1,4 +1,4 @@
-use Rattle.std.proofs.Common.{◌≡◌, ◌<◌, ℕ}
+use Rattle.std.proofs.Common.{◌≡◌, ℕ}
 use Rattle.std.specs.Prelude.{◌&&◌, nat_lt}
 use Rattle.block_meaning.specs.Tables.{Table}
 use Rattle.ion_cells.specs.declared.kind.Kind.{Kind}

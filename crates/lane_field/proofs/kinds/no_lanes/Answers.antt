@@ -1,4 +1,3 @@
-use Rattle.std.proofs.Common.{◌≡◌, false}
 use Rattle.ion_cells.specs.declared.kind.Kind.TheVariants.{Null, Bool, Int, Time, Symbol, Text, List, Struct}
 use Rattle.lane_base.proofs.BitLemmas.{has-zero}
 use Rattle.lane_field.proofs.kinds.no_lanes.Goals as goal

@@ -1,4 +1,4 @@
-use Rattle.std.proofs.Common.{◌≡◌, ◌∙◌, ap}
+use Rattle.std.proofs.Common.{◌∙◌, ap}
 use Rattle.block_meaning.specs.CellReading.{is_cell}
 use Rattle.block_meaning.proofs.LastSymbol.{cell_of_blank}
 use Rattle.lane_field.proofs.load.under_table.Goals as goal

@@ -1,4 +1,4 @@
-use Rattle.std.proofs.Common.{◌≡◌, ◌<◌, ℕ, false}
+use Rattle.std.proofs.Common.{◌≡◌, ℕ, false}
 use Rattle.std.specs.Prelude.{unwrap_or, ◌&&◌, nat_lt}
 use Rattle.ion_cells.specs.Values.{truth_of}
 use Rattle.block_meaning.specs.Tables.{Table}

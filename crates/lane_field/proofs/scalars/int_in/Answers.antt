@@ -1,4 +1,4 @@
-use Rattle.std.proofs.Common.{◌≡◌, pos, Option, Some, None, ℤ, w64, to_z-of_z, FitsSigned, rules, ap}
+use Rattle.std.proofs.Common.{pos, Option, Some, None, ℤ, w64, to_z-of_z, FitsSigned, rules, ap}
 use Rattle.std.specs.Prelude.{unwrap_or}
 use Rattle.ion_cells.specs.Values.{int_of}
 use Rattle.lane_field.proofs.OwnTables.{of_cell}

@@ -1,4 +1,4 @@
-use Rattle.std.proofs.Common.{◌≡◌, Bool, false, Option, Some, None, ap}
+use Rattle.std.proofs.Common.{Bool, false, Option, Some, None, ap}
 use Rattle.std.specs.Prelude.{unwrap_or}
 use Rattle.ion_cells.specs.Values.{truth_of}
 use Rattle.lane_field.proofs.OwnTables.{of_cell}

@@ -1,8 +1,6 @@
-use Rattle.std.proofs.Common.{◌≡◌, ◌≢◌, ℕ, ◌-◌, ◌<◌, ◌≤◌, sym, ap, ◌∙◌, arith}
-use Rattle.block_meaning.specs.Tables.{Table}
-use Rattle.ion_cells.specs.Standing.{HasLast}
+use Rattle.std.proofs.Common.{◌≢◌, ℕ, ◌-◌, ◌<◌, sym, ap, ◌∙◌, arith}
 use Rattle.ion_cells.specs.Shown.{shown}
-use Rattle.ion_cells.specs.Iterating.{fields_last, fields_low}
+use Rattle.ion_cells.specs.Iterating.{fields_low}
 use Rattle.lane_field.proofs.Names.{pass, pass_shrinks, none_left}
 use Rattle.lane_field.proofs.walks.labelled.Goals as goal
 
