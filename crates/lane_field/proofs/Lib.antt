@@ -1,0 +1,14 @@
+pub mod Longer
+pub mod OwnTables
+pub mod Filled
+pub mod SetBits
+pub mod Steps
+pub mod KindOf
+pub mod Nested
+pub mod Putting
+pub mod Shorter
+pub mod Names
+pub mod Numbers
+pub mod Parts
+pub mod Wholes
+pub mod Absent
