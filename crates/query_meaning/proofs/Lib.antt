@@ -3,3 +3,7 @@ pub mod Takes
 pub mod TakesQuery
 pub mod Full
 pub mod FullQuery
+pub mod Formed
+pub mod FormedShort
+pub mod Spans
+pub mod Verdicts

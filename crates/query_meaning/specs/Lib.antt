@@ -13,4 +13,6 @@ pub mod Tokens
 pub mod RowName
 pub mod Grammar
 pub mod Reading
+pub mod Faults
+pub mod WellFormed
 pub mod Laws

@@ -125,7 +125,7 @@ pub enum Level {
     Term,
 }
 
-ghost use Rattle.query_meaning.specs.Laws.{OneQuery, ReadsExactly};
+ghost use Rattle.query_meaning.specs.Laws.{OneQuery, OneVerdict, QueriesAreWellFormed, ReadsExactly};
 
 /// A list of tokens has at most one query.
 pub fn one_query()
@@ -135,4 +135,14 @@ pub fn one_query()
 /// Reading answers exactly the query of the tokens.
 pub fn reads_exactly()
     ensures { ReadsExactly }
+{}
+
+/// A text comes to one verdict: one fault, or one query.
+pub fn one_verdict()
+    ensures { OneVerdict }
+{}
+
+/// A query of the tokens of a text is well formed.
+pub fn queries_are_well_formed()
+    ensures { QueriesAreWellFormed }
 {}
