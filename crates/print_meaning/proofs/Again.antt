@@ -1,17 +1,17 @@
 -- The printed text of a query is read as the query.
-use Rattle.std.proofs.Common.{◌≡◌, ℕ, List, [], ◌∷◌, Some, None, Ok, Err, Result, refl, ap, sym, ◌∙◌}
+use Rattle.std.proofs.Common.{◌≡◌, List, [], None, Ok, Result, refl, ap}
 use Rattle.std.specs.Option.{option_map}
 use Rattle.query_meaning.specs.Tree.{Query}
 use Rattle.query_meaning.specs.Lexing.{Span, spans_of}
 use Rattle.query_meaning.specs.Tokens.{tokens_in}
 use Rattle.query_meaning.specs.Grammar.{IsQuery}
 use Rattle.query_meaning.specs.WellFormed.{IsWellFormed}
-use Rattle.query_meaning.specs.Faults.{refused_at, Verdict, is_query, ComesTo, by_length, by_token, by_count, by_word, by_depth, by_grammar, a_query}
+use Rattle.query_meaning.specs.Faults.{refused_at, Verdict, ComesTo, by_length, by_token, by_count, by_word, by_depth, by_grammar, a_query}
 use Rattle.query_meaning.proofs.FullQuery.{one_query, query-full}
 use Rattle.print_meaning.specs.Pieces.{spelled, tokens_of}
 use Rattle.print_meaning.specs.Print.{printed, query_text}
 use Rattle.print_meaning.specs.Laws.{IsItsTokens, HasItsTokens, IsAgain}
-use Rattle.print_meaning.proofs.Lexed.{Lexed, lexed}
+use Rattle.print_meaning.proofs.Lexed.{lexed}
 use Rattle.print_meaning.proofs.Spaced.{query-spaced}
 use Rattle.print_meaning.proofs.Written.{query-printed}
 

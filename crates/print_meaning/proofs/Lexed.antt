@@ -1,12 +1,11 @@
 -- Printed pieces are taken as their tokens, where each is taken before what follows it.
-use Rattle.std.proofs.Common.{◌≡◌, ℕ, zero, suc, ◌+◌, ◌-◌, List, [], ◌∷◌, ◌++◌, length, drop, take, map, Bool, true, false, cond, Option, Some, None, Result, Ok, Err, refl, ap, sym, ◌∙◌, arith, append_assoc, length-append}
+use Rattle.std.proofs.Common.{◌≡◌, ℕ, suc, ◌+◌, ◌-◌, List, [], ◌∷◌, ◌++◌, length, drop, take, Bool, false, cond, Option, Some, None, Ok, refl, ap, sym, ◌∙◌, arith, append_assoc, length-append}
 use Rattle.std.specs.Prelude.{find, ◌&&◌}
 use Rattle.std.proofs.Math.Seq.{drop-append_seam, take-append_seam}
 use Rattle.query_meaning.specs.declared.TokenKind.{TokenKind}
-use Rattle.query_meaning.specs.declared.TokenKind.TheVariants as k
 use Rattle.query_meaning.specs.Words.{is_refused}
-use Rattle.query_meaning.specs.Lexing.{Span, Cut, is_space, cut_at, with_span, cut_then, spans_from, spans_of}
-use Rattle.query_meaning.specs.Tokens.{Tok, Toks, token_of, bytes_at, meaning, tokens_in}
+use Rattle.query_meaning.specs.Lexing.{Span, is_space, cut_at, with_span, spans_from}
+use Rattle.query_meaning.specs.Tokens.{Tok, Toks, token_of, bytes_at, tokens_in}
 use Rattle.query_meaning.specs.Faults.{is_bare, refuses}
 use Rattle.print_meaning.specs.Pieces.{Pieces, space, token, spelling, spelled, tokens_of}
 

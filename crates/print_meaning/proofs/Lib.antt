@@ -9,3 +9,5 @@ pub mod Numbers
 pub mod Moments
 pub mod Spaced
 pub mod Again
+pub mod DatesShown
+pub mod TimeDigits

@@ -1,13 +1,13 @@
 -- The decimal digits of a number are taken as it.
-use Rattle.std.proofs.Common.{◌≡◌, ℕ, zero, suc, ◌+◌, ◌-◌, ◌*◌, ◌^◌, ◌<◌, ◌≤◌, List, [], ◌∷◌, ◌++◌, length, drop, take, Bool, true, false, cond, Some, None, Ok, refl, ap, sym, ◌∙◌, arith, rules}
-use Rattle.std.specs.Prelude.{◌==◌, ◌&&◌, ◌||◌, nat_le, decimal, is_some}
+use Rattle.std.proofs.Common.{◌≡◌, ℕ, suc, ◌^◌, ◌<◌, List, [], ◌∷◌, ◌++◌, length, Bool, true, false, cond, Some, Ok, refl, arith, rules}
+use Rattle.std.specs.Prelude.{◌==◌, nat_le, decimal}
 use Rattle.std.proofs.Math.Seq.{take-append_seam, drop-append_seam}
 use Rattle.std.proofs.lemmas.Bool.Decides.{nat_tests}
 use Rattle.std.proofs.lemmas.Fmt.{digits_decimal, digits_value-decimal, decimal_nonempty}
 use Rattle.std.proofs.lemmas.Str.Parse.{IsNumeralModel, numerals_by_fold}
 use Rattle.query_meaning.specs.declared.TokenKind.TheVariants as k
-use Rattle.query_meaning.specs.Lexing.{is_space, starts_word, is_digit, run, decimal_on, number_of, is_ended, begins_with, number_cut, cut_at}
-use Rattle.query_meaning.specs.Tokens.{Tok, num, token_of}
+use Rattle.query_meaning.specs.Lexing.{is_space, starts_word, is_digit, decimal_on, number_of, is_ended, begins_with, number_cut, cut_at}
+use Rattle.query_meaning.specs.Tokens.{num, token_of}
 use Rattle.print_meaning.specs.Pieces.{spelling}
 use Rattle.print_meaning.proofs.Lexed.{Lexes}
 use Rattle.print_meaning.proofs.PlainWords.{first, each, run_over}

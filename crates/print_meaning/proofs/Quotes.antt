@@ -1,12 +1,12 @@
 -- Names and texts are taken up to their closing quote, and their doubled quotes are single ones again.
-use Rattle.std.proofs.Common.{◌≡◌, ℕ, zero, suc, ◌+◌, ◌-◌, ◌<◌, List, [], ◌∷◌, ◌++◌, length, drop, take, Bool, true, false, cond, Option, Some, None, Ok, refl, ap, sym, ◌∙◌, arith, append_assoc, length-append}
-use Rattle.std.specs.Prelude.{◌==◌, ◌&&◌, nat_lt}
+use Rattle.std.proofs.Common.{◌≡◌, ℕ, suc, ◌-◌, ◌<◌, List, [], ◌∷◌, ◌++◌, length, Bool, true, false, cond, Some, Ok, refl, ap, ◌∙◌, arith, append_assoc, length-append}
+use Rattle.std.specs.Prelude.{◌==◌, nat_lt}
 use Rattle.std.specs.Option.{option_map}
 use Rattle.std.proofs.Math.Seq.{take-append_seam}
 use Rattle.std.proofs.lemmas.Bool.Decides.{nat_tests}
 use Rattle.query_meaning.specs.declared.TokenKind.TheVariants as k
-use Rattle.query_meaning.specs.Lexing.{begins_with, closing, or_one, quoted_or, name_cut, string_cut, cut_at}
-use Rattle.query_meaning.specs.Tokens.{Tok, quoted, string, inner, undoubled, token_of}
+use Rattle.query_meaning.specs.Lexing.{begins_with, closing, or_one, name_cut, string_cut, cut_at}
+use Rattle.query_meaning.specs.Tokens.{quoted, string, inner, undoubled, token_of}
 use Rattle.query_meaning.specs.WellFormed.{IsName}
 use Rattle.print_meaning.specs.Pieces.{doubled, in_quotes, spelling}
 use Rattle.print_meaning.proofs.Lexed.{Lexes}

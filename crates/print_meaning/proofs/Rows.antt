@@ -1,12 +1,12 @@
 -- A tree whose paths begin with the row's name loses exactly that.
-use Rattle.std.proofs.Common.{◌≡◌, ℕ, List, [], ◌∷◌, Bool, true, Option, Some, None, map, refl, ap, sym, ◌∙◌}
+use Rattle.std.proofs.Common.{◌≡◌, ℕ, List, [], ◌∷◌, Bool, true, Option, Some, None, map, refl, ap}
 use Rattle.std.specs.Prelude.{All, IfSome}
 use Rattle.std.specs.Option.{option_map}
 use Rattle.std.specs.Str.{bytes_eq}
-use Rattle.std.specs.Prelude.{◌<◌, length, suc, zero}
+use Rattle.std.specs.Prelude.{suc}
 use Rattle.std.proofs.Common.{arith}
 use Rattle.std.proofs.lemmas.Cmp.{nat_list_eq_equiv}
-use Rattle.query_meaning.specs.Tree.{Step, name, at, Ex, Exs, Arms, lit, path, neg, no, bin, is, member, between, matching, choice, cast, call, trunc, extract, shift, agg_of_rows, agg, no_exs, ex, no_arms, arm, Outs, star, named, Query}
+use Rattle.query_meaning.specs.Tree.{Step, name, at, Ex, Exs, Arms, lit, path, neg, no, bin, is, member, between, matching, choice, cast, call, trunc, extract, shift, agg_of_rows, agg, no_exs, ex, no_arms, arm, Outs, star, named}
 use Rattle.query_meaning.specs.RowName.{short_path, short, short_exs, short_arms, short_outs}
 use Rattle.query_meaning.specs.WellFormed.{IsPath, IsFormed, AreFormed, ArmsAreFormed, IsOutput, AreOutputs, IsKey}
 

@@ -1,11 +1,9 @@
 -- Signs are taken before what follows them in a printed query.
-use Rattle.std.proofs.Common.{◌≡◌, ℕ, suc, List, [], ◌∷◌, length, Bool, true, false, cond, Ok, refl}
-use Rattle.std.specs.Prelude.{◌==◌}
+use Rattle.std.proofs.Common.{◌≡◌, ℕ, List, [], ◌∷◌, false, Ok, refl}
 use Rattle.query_meaning.specs.declared.TokenKind.TheVariants as k
-use Rattle.query_meaning.specs.declared.Mark.{Mark}
 use Rattle.query_meaning.specs.declared.Mark.TheVariants as m
-use Rattle.query_meaning.specs.Lexing.{is_space, begins_with, begins_two, two_sign, one_sign, sign_of, sign_cut, cut_at}
-use Rattle.query_meaning.specs.Tokens.{Tok, mark, token_of}
+use Rattle.query_meaning.specs.Lexing.{begins_with, two_sign, one_sign, sign_of, sign_cut, cut_at}
+use Rattle.query_meaning.specs.Tokens.{mark, token_of}
 use Rattle.print_meaning.specs.Pieces.{spelling}
 use Rattle.print_meaning.proofs.Lexed.{Lexes}
 

@@ -1,6 +1,6 @@
 -- In a printed query each token is taken before what follows it.
-use Rattle.std.proofs.Common.{◌≡◌, ℕ, zero, suc, ◌^◌, ℤ, pos, negsuc, ◌<◌, ◌≤◌, List, [], ◌∷◌, ◌++◌, length, Bool, true, false, cond, Option, Some, None, refl, ap, sym, ◌∙◌, arith}
-use Rattle.std.specs.Prelude.{All, IfSome, decimal, unwrap_or}
+use Rattle.std.proofs.Common.{◌≡◌, ℕ, zero, suc, ◌^◌, pos, negsuc, ◌<◌, List, [], ◌∷◌, Bool, true, false, Option, Some, None, refl, arith}
+use Rattle.std.specs.Prelude.{All, IfSome, unwrap_or}
 use Rattle.std.proofs.lemmas.Bool.Decides.{nat_tests}
 use Rattle.value_meaning.specs.Val as val
 use Rattle.query_meaning.specs.declared.Mark.{Mark}
@@ -11,11 +11,9 @@ use Rattle.query_meaning.specs.BinOp as op
 use Rattle.query_meaning.specs.IsWhat as what
 use Rattle.query_meaning.specs.How as how
 use Rattle.query_meaning.specs.Part.{Part}
-use Rattle.query_meaning.specs.AggName.{AggName}
 use Rattle.query_meaning.specs.Tree.{Step, name, at, Ex, Exs, Arms, lit, path, neg, no, bin, is, member, between, matching, choice, cast, call, trunc, extract, shift, agg_of_rows, agg, no_exs, ex, no_arms, arm, Outs, star, named, Query}
-use Rattle.query_meaning.specs.Words.{function_text}
 use Rattle.query_meaning.specs.Lexing.{is_digit, is_word_byte, begins_with, is_ended}
-use Rattle.query_meaning.specs.Tokens.{mark, word, quoted, string, moment, num}
+use Rattle.query_meaning.specs.Tokens.{mark, quoted, string, num}
 use Rattle.query_meaning.specs.RowName.{row_name}
 use Rattle.query_meaning.specs.WellFormed.{IsName, IsLiteral, IsPath, IsStep, IsFormed, AreFormed, ArmsAreFormed, IsOutput, AreOutputs, IsKey, IsCount, IsWellFormed}
 use Rattle.print_meaning.specs.Pieces.{Pieces, space, token, spelling, spelled}

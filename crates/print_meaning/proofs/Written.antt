@@ -1,5 +1,5 @@
 -- The printed tokens of a query are in the grammar.
-use Rattle.std.proofs.Common.{◌≡◌, ℕ, zero, suc, ℤ, pos, negsuc, ◌<◌, ◌≤◌, List, [], ◌∷◌, length, map, Bool, true, false, Option, Some, None, refl, ap, sym, ◌∙◌, arith}
+use Rattle.std.proofs.Common.{◌≡◌, ℕ, zero, suc, pos, negsuc, ◌≤◌, List, [], ◌∷◌, length, map, Bool, true, false, Option, Some, None, refl, ap, sym, arith}
 use Rattle.std.specs.Prelude.{All, IfSome}
 use Rattle.std.specs.Option.{option_map}
 use Rattle.value_meaning.specs.Val as val
@@ -7,23 +7,21 @@ use Rattle.query_meaning.specs.declared.Mark.{Mark}
 use Rattle.query_meaning.specs.declared.Mark.TheVariants as m
 use Rattle.query_meaning.specs.declared.FunctionWord.{FunctionWord}
 use Rattle.query_meaning.specs.declared.FunctionWord.TheVariants as f
-use Rattle.query_meaning.specs.declared.Level.{Level}
 use Rattle.query_meaning.specs.declared.Level.TheVariants as lv
 use Rattle.query_meaning.specs.BinOp as op
 use Rattle.query_meaning.specs.IsWhat as what
 use Rattle.query_meaning.specs.How as how
 use Rattle.query_meaning.specs.Func as func
-use Rattle.query_meaning.specs.Part.{Part}
 use Rattle.query_meaning.specs.AggName.{AggName}
 use Rattle.query_meaning.specs.AggName as aggs
 use Rattle.query_meaning.specs.Tree.{Step, name, at, Ex, Exs, Arms, lit, path, neg, no, bin, is, member, between, matching, choice, cast, call, trunc, extract, shift, agg_of_rows, agg, exs, items, no_exs, ex, no_arms, arm, Outs, star, named, Query}
 use Rattle.query_meaning.specs.Words.{function_text}
-use Rattle.query_meaning.specs.Tokens.{Tok, Toks, mark, word, quoted, string, moment, num}
-use Rattle.query_meaning.specs.Grammar.{Head, function, aggregate, Joins, by_or, by_and, by_plus, by_minus, by_star, by_slash, by_percent, Compares, by_equal, by_unequal, by_less, by_at_most, by_greater, by_at_least, Asks, for_null, for_missing, for_true, for_false, by_like, by_ilike, is_null, is_missing, is_true, is_false, Calls, by_coalesce, by_null_if, by_char_length, by_unix_epoch, by_unix_micro, by_count, by_sum, by_min, by_max, by_avg, by_earliest, by_latest, by_bool_and, by_bool_or, by_starts_with, by_ends_with, by_contains, Opens, nothing, cut_to, part_from, added, Makes, coalesce, null_if, char_length, unix_epoch, unix_micro, aggregated, truncated, extracted, shifted, Name, bare, in_quotes, Steps, no_steps, dotted, indexed, Chain, chain, More, stop, more, Operand, of_or, of_and, of_sum, of_term, Neg, plain, negated, Pred, alone, compared, asked, tested, Test, among, from_to, likened, Minus, unsigned, minus, Prim, a_number, a_string, a_moment, a_literal, a_path, in_parens, a_case, a_cast, a_call, a_match, a_count, Whens, last_when, more_whens, Else, otherwise, Exprs, last_expr, more_exprs, Expr, Alias, no_alias, as_alias, Items, last_item, more_items, Outputs, all, listed, Direction, rising, descending, Keys, last_key, more_keys, Filter, no_filter, filter, Groups, no_groups, groups, Order, no_order, order, Count, no_count, count, skip_of, Written, written, IsQuery}
+use Rattle.query_meaning.specs.Tokens.{Toks, mark, word}
+use Rattle.query_meaning.specs.Grammar.{Head, aggregate, Joins, by_or, by_and, by_plus, by_minus, by_star, by_slash, by_percent, Compares, by_equal, by_unequal, by_less, by_at_most, by_greater, by_at_least, Asks, for_null, for_missing, for_true, for_false, by_like, by_ilike, is_null, is_missing, is_true, is_false, Calls, by_coalesce, by_null_if, by_char_length, by_unix_epoch, by_unix_micro, by_count, by_sum, by_min, by_max, by_avg, by_earliest, by_latest, by_bool_and, by_bool_or, by_starts_with, by_ends_with, by_contains, Opens, nothing, cut_to, part_from, added, Makes, coalesce, null_if, char_length, unix_epoch, unix_micro, aggregated, truncated, extracted, shifted, in_quotes, Steps, no_steps, dotted, indexed, Chain, chain, stop, more, Operand, of_or, of_and, of_sum, of_term, Neg, plain, negated, alone, compared, asked, tested, among, from_to, likened, Minus, unsigned, minus, Prim, a_number, a_string, a_moment, a_literal, a_path, in_parens, a_case, a_cast, a_call, a_match, a_count, Whens, last_when, more_whens, otherwise, Exprs, last_expr, more_exprs, Expr, Alias, no_alias, as_alias, Items, last_item, more_items, Outputs, all, listed, Direction, rising, descending, Keys, last_key, more_keys, Filter, no_filter, filter, Groups, no_groups, groups, Order, no_order, order, Count, no_count, count, skip_of, Written, written, IsQuery}
 use Rattle.query_meaning.specs.RowName.{row_name, without_row}
 use Rattle.query_meaning.specs.WellFormed.{IsLiteral, IsPath, IsStep, IsFormed, AreFormed, ArmsAreFormed, IsOutput, AreOutputs, IsKey, IsWellFormed}
-use Rattle.print_meaning.specs.Pieces.{Pieces, space, token, tokens_of}
-use Rattle.print_meaning.specs.Print.{key, title, what_mark, agg_word, put_literal, put_steps, put, put_exs, put_other_exs, put_arms, put_others, put_list, put_alias, put_item, put_outs, put_filter, put_groups, put_direction, put_key, put_order, put_count, skipped, printed}
+use Rattle.print_meaning.specs.Pieces.{Pieces, tokens_of}
+use Rattle.print_meaning.specs.Print.{key, what_mark, agg_word, put_literal, put_steps, put, put_exs, put_other_exs, put_arms, put_others, put_alias, put_item, put_outs, put_filter, put_groups, put_direction, put_key, put_order, put_count, skipped, printed}
 use Rattle.print_meaning.proofs.Known.{function-known, part-known, cast-known}
 use Rattle.print_meaning.proofs.Rows.{all_first, all_rest, long, long_exs, long_arms, long_item, long_key, long_outs, short_long_list, short_long_outs, short_long_order, short_long_option}
 
@@ -249,17 +247,17 @@ loses_row : (q : Query) → IsWellFormed q → without_row (row_name (with_row q
 loses_row q h =
     let row = row_name q in
     λ i.
-      record {
-        outs = short_long_outs row q.outs h.outs i;
-        source = q.source;
-        alias = q.alias;
-        filter = short_long_option row q.filter h.filter i;
-        keys = short_long_list row q.keys h.keys i;
-        having = short_long_option row q.having h.having i;
-        order = short_long_order row q.order h.order i;
-        take = q.take;
-        skip = skip_put q.skip i;
-      }
+    record {
+      outs = short_long_outs row q.outs h.outs i;
+      source = q.source;
+      alias = q.alias;
+      filter = short_long_option row q.filter h.filter i;
+      keys = short_long_list row q.keys h.keys i;
+      having = short_long_option row q.having h.having i;
+      order = short_long_order row q.order h.order i;
+      take = q.take;
+      skip = skip_put q.skip i;
+    }
 
 -- the printed tokens are the query
 pub query-printed : (q : Query) → IsWellFormed q → IsQuery (tokens_of (printed q)) q

@@ -1,5 +1,5 @@
 -- What is printed is read again.
-use Rattle.std.specs.Prelude.{◌≡◌, ℤ, List, Option, Some, None, Ok}
+use Rattle.std.specs.Prelude.{◌≡◌, ℤ, List, Some, None, Ok}
 use Rattle.time_meaning.specs.Moments.{IsTime}
 use Rattle.time_meaning.specs.Printed.{time_text}
 use Rattle.time_meaning.specs.Texts.{time_of}

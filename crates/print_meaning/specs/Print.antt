@@ -12,7 +12,6 @@ use Rattle.query_meaning.specs.IsWhat.{IsWhat}
 use Rattle.query_meaning.specs.IsWhat as what
 use Rattle.query_meaning.specs.How.{How}
 use Rattle.query_meaning.specs.How as how
-use Rattle.query_meaning.specs.CastTo.{CastTo}
 use Rattle.query_meaning.specs.Func.{Func}
 use Rattle.query_meaning.specs.Func as func
 use Rattle.query_meaning.specs.Part.{Part}

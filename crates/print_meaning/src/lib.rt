@@ -2,7 +2,10 @@
 #![tactic(auto)]
 
 ghost use Rattle.print_meaning.specs.Laws.{
-    PrintedTimesAreRead, PrintedTokensAreTheQuery, PrintedTextHasItsTokens, PrintedQueriesAreReadAgain
+  PrintedTimesAreRead,
+  PrintedTokensAreTheQuery,
+  PrintedTextHasItsTokens,
+  PrintedQueriesAreReadAgain,
 };
 
 /// The printed text of each time in range spells that time.
