@@ -6,3 +6,4 @@ pub mod Queries
 pub mod Classes
 pub mod Cuts
 pub mod Lexes
+pub mod Printing

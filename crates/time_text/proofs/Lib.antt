@@ -1,2 +1,4 @@
 pub mod ManyDigits
 pub mod Locals
+pub mod Dates
+pub mod Spelling

@@ -1,0 +1,100 @@
+//! The words and signs of printed queries.
+
+ghost use Rattle.std.specs.Prelude.{◌≡◌, ◌++◌, ◌∷◌, []};
+ghost use Rattle.query_meaning.specs.Words.{mark_text, function_text, part_text, cast_text};
+ghost use Rattle.print_meaning.specs.Print.{op_mark, what_mark, func_word, agg_word};
+ghost use Rattle.sql_tree.specs.Names.{op_view, what_view, to_view, func_view, part_view, agg_view};
+ghost use Rattle.sql_tree.specs.Printing.{between_text};
+
+use agg_laws::AggName;
+use snel_values::{BinOp, CastTo, Func, IsWhat, Part};
+
+/// The operator's sign or word, with a space on both sides.
+pub(crate) fn op_text(op: BinOp) -> &'static str
+    ensures { result.now ≡ between_text (op_mark (op_view op)) }
+{
+    match op {
+        BinOp::Add => " + ",
+        BinOp::Sub => " - ",
+        BinOp::Mul => " * ",
+        BinOp::Div => " / ",
+        BinOp::Rem => " % ",
+        BinOp::Eq => " = ",
+        BinOp::Ne => " <> ",
+        BinOp::Lt => " < ",
+        BinOp::Le => " <= ",
+        BinOp::Gt => " > ",
+        BinOp::Ge => " >= ",
+        BinOp::And => " AND ",
+        BinOp::Or => " OR ",
+    }
+}
+
+/// What IS asks for.
+pub(crate) fn what_text(what: IsWhat) -> &'static str
+    ensures { result.now ≡ mark_text (what_mark (what_view what)) }
+{
+    match what {
+        IsWhat::Null => "NULL",
+        IsWhat::Missing => "MISSING",
+        IsWhat::True => "TRUE",
+        IsWhat::False => "FALSE",
+    }
+}
+
+/// What CAST makes.
+pub(crate) fn to_text(to: CastTo) -> &'static str
+    ensures { result.now ≡ cast_text (to_view to) }
+{
+    match to {
+        CastTo::Integer => "INTEGER",
+        CastTo::Boolean => "BOOLEAN",
+    }
+}
+
+/// The function's word.
+pub(crate) fn func_text(name: Func) -> &'static str
+    ensures { result.now ≡ function_text (func_word (func_view name)) }
+{
+    match name {
+        Func::Coalesce => "COALESCE",
+        Func::NullIf => "NULLIF",
+        Func::CharLength => "CHAR_LENGTH",
+        Func::UnixEpoch => "TO_UNIX_EPOCH",
+        Func::UnixMicro => "TO_UNIX_MICRO",
+    }
+}
+
+/// The aggregate's word.
+pub(crate) fn agg_text(name: AggName) -> &'static str
+    ensures { result.now ≡ function_text (agg_word (agg_view name)) }
+{
+    match name {
+        AggName::CountAll | AggName::Count => "COUNT",
+        AggName::Sum => "SUM",
+        AggName::Min => "MIN",
+        AggName::Max => "MAX",
+        AggName::Avg => "AVG",
+        AggName::Earliest => "EARLIEST",
+        AggName::Latest => "LATEST",
+        AggName::BoolAnd => "BOOL_AND",
+        AggName::BoolOr => "BOOL_OR",
+    }
+}
+
+/// The part's word.
+pub(crate) fn part_name(part: Part) -> &'static str
+    ensures { result.now ≡ part_text (part_view part) }
+{
+    match part {
+        Part::Microsecond => "MICROSECOND",
+        Part::Second => "SECOND",
+        Part::Minute => "MINUTE",
+        Part::Hour => "HOUR",
+        Part::Day => "DAY",
+        Part::Week => "WEEK",
+        Part::Month => "MONTH",
+        Part::Quarter => "QUARTER",
+        Part::Year => "YEAR",
+    }
+}
