@@ -11,3 +11,6 @@ pub mod Spaced
 pub mod Again
 pub mod DatesShown
 pub mod TimeDigits
+pub mod PrintedFronts
+pub mod PrintedTexts
+pub mod PrintedLists
