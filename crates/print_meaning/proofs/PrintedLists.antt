@@ -8,7 +8,7 @@ use Rattle.query_meaning.specs.Tokens.{num}
 use Rattle.query_meaning.specs.RowName.{row_name}
 use Rattle.print_meaning.specs.Pieces.{Pieces, token, doubled, in_quotes, spelling, spelled}
 use Rattle.print_meaning.specs.Print.{title, put_between, put_steps, put, put_other_exs, put_arms, put_others, put_list, put_alias, put_item, put_outs, put_filter, put_groups, put_direction, put_key, put_order, put_count, skipped, printed, query_text}
-use Rattle.print_meaning.specs.Texts.{steps_text, text, list_text, arms_text, alias_text, outs_text, items_text, keys_text, clause_text, count_text, groups_text, order_text}
+use Rattle.print_meaning.specs.Texts.{steps_text, text, list_text, arms_text, alias_text, outs_text, items_text, keys_text, clause_text, count_text, groups_text, order_text, separator}
 use Rattle.print_meaning.proofs.PrintedTexts.{ex_text}
 
 drop_at : {A : Type 0} (xs : List A) (i : ℕ) (x : A) → slice_get xs i ≡ Some x → drop i xs ≡ x ∷ drop (suc i) xs
@@ -58,10 +58,6 @@ members_text each (x ∷ xs) = each x ++ others_text each xs
 abbrev pub left_text : {A : Type 0} → (A → List ℕ) → ℕ → List A → List ℕ
 left_text each zero xs = members_text each xs
 left_text each (suc place) xs = others_text each (drop (suc place) xs)
-
-abbrev pub separator : ℕ → List ℕ
-separator zero = []
-separator (suc place) = 44 ∷ 32 ∷ []
 
 abbrev pub Lists : {A : Type 0} → (A → List ℕ) → List ℕ → List ℕ → ℕ → List A → Type 0
 Lists each old now place xs = now ++ left_text each place xs ≡ old ++ members_text each xs
@@ -232,3 +228,9 @@ query_is q =
     ∙ ap (λ (z : List ℕ). clause_text (codes " HAVING ") row q.having ++ z) (order_front row q.order take
     ∙ ap (λ (z : List ℕ). order_text row q.order ++ z) (count_front row m.Limit (codes " LIMIT ") q.take skip (λ t. refl)
     ∙ ap (λ (z : List ℕ). count_text (codes " LIMIT ") q.take ++ z) (count_front row m.Offset (codes " OFFSET ") (skipped q.skip) [] (λ t. refl) ∙ append-nil (count_text (codes " OFFSET ") (skipped q.skip))))))))))
+
+-- What is between quotes is written byte by byte.
+pub quoted_all : (old first now items text : List ℕ) (quote place : ℕ) → first ≡ old ++ quote ∷ [] → items ≡ text → length items ≤ place → Joins (twice quote) first now place items → now ++ quote ∷ [] ≡ old ++ quote ∷ (doubled quote text ++ quote ∷ [])
+quoted_all old first now items text quote place e f h j =
+    let all : now ≡ first ++ doubled quote text = joins_all (twice quote) first now place items h j ∙ ap (λ (z : List ℕ). first ++ joined_text (twice quote) z) f ∙ ap (λ (z : List ℕ). first ++ z) (sym (doubled_is quote text)) in
+    rw (all, e) (simp append_assoc)

@@ -1,5 +1,5 @@
 -- The texts of the parts of a printed query.
-use Rattle.std.specs.Prelude.{ℕ, Bool, List, [], ◌∷◌, ◌++◌, Option, Some, None, decimal, codes}
+use Rattle.std.specs.Prelude.{ℕ, zero, suc, Bool, List, [], ◌∷◌, ◌++◌, Option, Some, None, decimal, codes}
 use Rattle.value_meaning.specs.Val.{Val}
 use Rattle.query_meaning.specs.declared.Mark.{Mark}
 use Rattle.query_meaning.specs.declared.Mark.TheVariants as m
@@ -66,3 +66,8 @@ groups_text row (e ∷ es) = codes " GROUP BY " ++ list_text row (e ∷ es)
 abbrev pub order_text : List ℕ → List (Ex × Bool) → List ℕ
 order_text row [] = []
 order_text row (k ∷ ks) = codes " ORDER BY " ++ keys_text row (k ∷ ks)
+
+-- what stands before the member of a list at a place
+abbrev pub separator : ℕ → List ℕ
+separator zero = []
+separator (suc place) = 44 ∷ 32 ∷ []
