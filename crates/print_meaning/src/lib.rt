@@ -8,6 +8,13 @@ ghost use Rattle.print_meaning.specs.Laws.{
   PrintedQueriesAreReadAgain,
 };
 
+ghost use Rattle.print_meaning.specs.Examples.{ArePrintedSo};
+
+/// Some forty forms of expressions, and two queries, are printed as it is written beside them.
+pub fn examples_are_printed_so()
+    ensures { ArePrintedSo }
+{}
+
 /// The printed text of each time in range spells that time.
 pub fn printed_times_are_read()
     ensures { PrintedTimesAreRead }

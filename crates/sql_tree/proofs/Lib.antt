@@ -1,2 +1,3 @@
 pub mod LexSteps
 pub mod SpanSteps
+pub mod Finding

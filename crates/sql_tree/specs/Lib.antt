@@ -6,4 +6,3 @@ pub mod Queries
 pub mod Classes
 pub mod Cuts
 pub mod Lexes
-pub mod Printing

@@ -1,10 +1,13 @@
 //! Names, texts, numbers, literals and paths of printed queries.
 
-ghost use Rattle.std.specs.Prelude.{◌≡◌, ◌++◌, ◌∷◌, [], ◌<◌, ◌^◌, decimal, OnOk};
+ghost use Rattle.std.specs.Prelude.{◌≡◌, ◌++◌, ◌∷◌, [], ◌<◌, ◌^◌, decimal, map, OnOk};
 ghost use Rattle.print_meaning.specs.Pieces.{in_quotes};
+ghost use Rattle.time_meaning.specs.Moments.{IsTime};
+ghost use Rattle.time_meaning.specs.Printed.{time_text};
 ghost use Rattle.query_meaning.specs.WellFormed.{IsLiteral};
 ghost use Rattle.snel_values.specs.View.{view as value_view};
-ghost use Rattle.sql_tree.specs.Printing.{literal_text, steps_text};
+ghost use Rattle.sql_tree.specs.View.{step_view};
+ghost use Rattle.print_meaning.specs.Texts.{literal_text, steps_text, separator};
 
 use itoa::Buffer;
 use snel_values::{Bytes, OutOfMemory, Step, Steps, Value};
@@ -39,6 +42,13 @@ pub(crate) fn put_name(into: &mut Bytes, name: &str) -> Result<(), OutOfMemory>
     put_quoted(into, b'"', name)
 }
 
+/// What stands before the member of a list at this place.
+pub(crate) fn separator(place: usize) -> &'static str
+    ensures { result.now ≡ separator place }
+{
+    if place == 0 { "" } else { ", " }
+}
+
 /// Adds the number's decimal digits.
 pub(crate) fn put_number(into: &mut Bytes, number: u64) -> Result<(), OutOfMemory>
     ensures { OnOk result (into.new ≡ into.old ++ decimal number) }
@@ -58,7 +68,7 @@ fn put_moment(into: &mut Bytes, time: i64) -> Result<(), OutOfMemory>
 }
 
 /// Adds the literal.
-#[tactic(auto, unfolding(crate::specs::Printing::literal_text, print_meaning::specs::Pieces::spelling))]
+#[tactic(auto, unfolding(print_meaning::specs::Texts::literal_text, print_meaning::specs::Pieces::spelling))]
 pub(crate) fn put_literal(into: &mut Bytes, value: &Value) -> Result<(), OutOfMemory>
     requires { IsLiteral (value_view value.now) }
     ensures { OnOk result (into.new ≡ into.old ++ literal_text (value_view value.now)) }
@@ -76,8 +86,9 @@ pub(crate) fn put_literal(into: &mut Bytes, value: &Value) -> Result<(), OutOfMe
 }
 
 /// Adds the step: `.` and the name, or the place in brackets.
+#[tactic(auto, unfolding(print_meaning::specs::Texts::steps_text, print_meaning::specs::Pieces::spelling))]
 fn put_step(into: &mut Bytes, step: &Step) -> Result<(), OutOfMemory>
-    ensures { OnOk result (into.new ≡ into.old ++ steps_text (step.now ∷ [])) }
+    ensures { OnOk result (into.new ≡ into.old ++ steps_text (step_view step.now ∷ [])) }
 {
     match step {
         Step::Name(name) => {
@@ -94,7 +105,7 @@ fn put_step(into: &mut Bytes, step: &Step) -> Result<(), OutOfMemory>
 
 /// Adds the steps.
 pub(crate) fn put_steps(into: &mut Bytes, steps: &Steps) -> Result<(), OutOfMemory>
-    ensures { OnOk result (into.new ≡ into.old ++ steps_text steps.now) }
+    ensures { OnOk result (into.new ≡ into.old ++ steps_text (map step_view steps.now)) }
 {
     let count = steps.len();
     let mut place = 0;

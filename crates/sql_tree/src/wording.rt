@@ -4,7 +4,7 @@ ghost use Rattle.std.specs.Prelude.{◌≡◌, ◌++◌, ◌∷◌, []};
 ghost use Rattle.query_meaning.specs.Words.{mark_text, function_text, part_text, cast_text};
 ghost use Rattle.print_meaning.specs.Print.{op_mark, what_mark, func_word, agg_word};
 ghost use Rattle.sql_tree.specs.Names.{op_view, what_view, to_view, func_view, part_view, agg_view};
-ghost use Rattle.sql_tree.specs.Printing.{between_text};
+ghost use Rattle.print_meaning.specs.Texts.{between_text};
 
 use agg_laws::AggName;
 use snel_values::{BinOp, CastTo, Func, IsWhat, Part};
