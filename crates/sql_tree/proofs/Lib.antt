@@ -1,3 +1,2 @@
 pub mod LexSteps
 pub mod SpanSteps
-pub mod Finding

@@ -8,22 +8,16 @@ mod expr;
 mod lexer;
 mod lists;
 mod numbers;
-
-mod print_expr;
-mod print_query;
 mod query;
 mod quotes;
 mod signs;
-mod spelling;
 mod token;
-mod wording;
 
 pub use arms::{Arm, Arms};
 pub use expr::{Expr, Operand};
 pub use lexer::tokens;
 pub use lists::{Exprs, Item, OrderKey, OrderKeys, OutItems};
 pub use numbers::number_of;
-pub use print_query::print;
 pub use query::{Outputs, Query};
 pub use signs::sign_of;
 pub use token::{LexFault, Token, Tokens};

@@ -1,4 +1,2 @@
 pub mod ManyDigits
 pub mod Locals
-pub mod Dates
-pub mod Spelling

@@ -7,11 +7,6 @@ ghost use Rattle.std.specs.Option.{option_map};
 ghost use Rattle.time_meaning.specs.Texts as spec;
 ghost use Rattle.time_text.specs.Few.{if_few};
 
-mod clock;
-mod printing;
-
-pub use printing::put_time;
-
 use jiff_core::civil::Date;
 
 /// The digit at the front, and what follows it.
