@@ -1,5 +1,5 @@
 -- Forms of expressions and queries, and their printed texts, written by hand.
-use Rattle.std.specs.Prelude.{◌≡◌, ℕ, ℤ, pos, List, [], ◌∷◌, Bool, true, false, map, Option, Some, None, codes}
+use Rattle.std.specs.Prelude.{◌≡◌, ℕ, pos, List, [], ◌∷◌, true, false, map, Some, None, codes}
 use Rattle.value_meaning.specs.Val as val
 use Rattle.query_meaning.specs.BinOp as op
 use Rattle.query_meaning.specs.IsWhat as what
@@ -8,7 +8,7 @@ use Rattle.query_meaning.specs.CastTo as to
 use Rattle.query_meaning.specs.Func as func
 use Rattle.query_meaning.specs.Part as part
 use Rattle.query_meaning.specs.AggName as aggs
-use Rattle.query_meaning.specs.Tree.{Step, name, at, Ex, lit, path, neg, no, bin, is, member, between, matching, choice, cast, call, trunc, extract, shift, agg_of_rows, agg, exs, arms, star, named, Query}
+use Rattle.query_meaning.specs.Tree.{name, at, Ex, lit, path, neg, no, bin, is, member, between, matching, choice, cast, call, trunc, extract, shift, agg_of_rows, agg, exs, arms, named, Query}
 use Rattle.print_meaning.specs.Texts.{text}
 use Rattle.print_meaning.specs.Print.{query_text}
 

@@ -7,7 +7,6 @@ ghost use Rattle.print_meaning.specs.Laws.{
   PrintedTextHasItsTokens,
   PrintedQueriesAreReadAgain,
 };
-
 ghost use Rattle.print_meaning.specs.Examples.{ArePrintedSo};
 
 /// Some forty forms of expressions, and two queries, are printed as it is written beside them.

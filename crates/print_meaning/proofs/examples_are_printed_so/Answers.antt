@@ -1,7 +1,6 @@
 -- By computing.
 use Rattle.std.proofs.Common.{refl}
 use Rattle.std.specs.Fmt.{digits}
-use Rattle.print_meaning.specs.Examples.{forms}
 use Rattle.print_meaning.specs.Pieces.{spelling}
 use Rattle.print_meaning.specs.Print.{printed, query_text}
 use Rattle.print_meaning.specs.Texts.{text}
