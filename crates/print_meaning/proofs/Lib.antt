@@ -1,0 +1,16 @@
+pub mod Rows
+pub mod Known
+pub mod Written
+pub mod Lexed
+pub mod Signs
+pub mod PlainWords
+pub mod Quotes
+pub mod Numbers
+pub mod Moments
+pub mod Spaced
+pub mod Again
+pub mod DatesShown
+pub mod TimeDigits
+pub mod PrintedFronts
+pub mod PrintedTexts
+pub mod PrintedLists

@@ -1,0 +1,5 @@
+pub mod Pieces
+pub mod Print
+pub mod Laws
+pub mod Texts
+pub mod Examples
