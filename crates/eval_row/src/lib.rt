@@ -9,6 +9,8 @@ mod logic;
 mod matching;
 mod numbers;
 mod paths;
+#[cfg(test)]
+mod tests;
 mod times;
 
 pub use evaluating::eval_row;
