@@ -21,9 +21,10 @@ pub all_have_texts-returns-then-not-has_text : goal.all_have_texts-returns-then-
 all_have_texts-returns-then-not-has_text t c =
     let xs = c.as_slice-item-items.result.now in
     let e = drop_map view xs c.loop-item.item-index c.item-item.result c.loop-item-test.true c.item-item.is in
-    let all = sym c.as_slice-item-items.ensures in
-    (λ f. cc,
-    λ k. c.if-not-has_text.ensures.1 (first_has _ _ _ _ c.loop-item.invariant.0 e (subst (λ (l : List Val). HaveTimesInRange (vals l) × HaveNoMissing (vals l)) all k)))
+    let all = sym c.as_slice-item-items.ensures in (
+      λ f. cc,
+      λ k. c.if-not-has_text.ensures.1 (first_has _ _ _ _ c.loop-item.invariant.0 e (subst (λ (l : List Val). HaveTimesInRange (vals l) × HaveNoMissing (vals l)) all k)),
+    )
 
 pub all_have_texts-loop-item-preserved : goal.all_have_texts-loop-item-preserved
 all_have_texts-loop-item-preserved t c =
