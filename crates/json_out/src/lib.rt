@@ -16,3 +16,5 @@ pub use maker::LineMaker;
 
 #[cfg(test)]
 mod tests;
+#[cfg(test)]
+mod value_tests;

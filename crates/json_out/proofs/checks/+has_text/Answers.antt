@@ -1,5 +1,5 @@
 -- The item at a place is the first of those from there on.
-use Rattle.std.proofs.Common.{◌≡◌, ◌<◌, ◌≤◌, ◌+◌, List, ◌∷◌, length, drop, refl, sym, ap, subst, arith}
+use Rattle.std.proofs.Common.{◌≤◌, ◌+◌, List, ◌∷◌, drop, refl, sym, ap, subst, arith}
 use Rattle.value_meaning.specs.Val.{Val, vals, vals_size}
 use Rattle.block_meaning.specs.Laws.{HaveTimesInRange}
 use Rattle.snel_values.specs.View.{view, views}

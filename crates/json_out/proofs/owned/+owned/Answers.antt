@@ -1,5 +1,5 @@
 -- Each item and each value of a pair is smaller than all of them.
-use Rattle.std.proofs.Common.{◌≡◌, ◌<◌, ◌∙◌, List, [], ◌∷◌, ◌++◌, length, ap, arith}
+use Rattle.std.proofs.Common.{◌<◌, ◌∙◌, List, [], ◌∷◌, ◌++◌, length, ap, arith}
 use Rattle.json.specs.Print.{quoted}
 use Rattle.answer_meaning.specs.Lines.{value_text}
 use Rattle.value_meaning.specs.Val.{Val, vals, vals_size}
