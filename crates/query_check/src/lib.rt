@@ -1,0 +1,11 @@
+//! Checks of queries: names of outputs, aggregates, grouping, and the first fault of a query that isn't accepted.
+#![tactic(auto)]
+
+mod copies;
+mod details;
+mod equal;
+mod heads;
+mod operands;
+
+pub use copies::copy_expr;
+pub use equal::{is_among, same_expr};
