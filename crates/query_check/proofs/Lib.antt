@@ -3,3 +3,5 @@ pub mod Listed
 pub mod Rebuilt
 pub mod Searching
 pub mod Smaller
+pub mod Walking
+pub mod Numbered

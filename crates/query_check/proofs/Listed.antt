@@ -27,7 +27,7 @@ module _ {A : Type 0} where
   pub same_more : (xs ys : List A) (k : ℕ) (x y : A) → slice_get xs k ≡ Some x → slice_get ys k ≡ Some y → x ≡ y → take k xs ≡ take k ys → take (k + 1) xs ≡ take (k + 1) ys
   same_more xs ys k x y a b e h = rw add-one (same_longer xs ys k x y a b e h)
 
-  whole : (xs : List A) (k : ℕ) → length xs ≤ k → take k xs ≡ xs
+  pub whole : (xs : List A) (k : ℕ) → length xs ≤ k → take k xs ≡ xs
   whole [] zero h = refl
   whole [] (suc k) h = refl
   whole (x ∷ xs) zero h = absurd (omega (arith, h))

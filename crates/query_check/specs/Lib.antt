@@ -1,1 +1,3 @@
 pub mod Heads
+pub mod Asked
+pub mod Faults

@@ -4,8 +4,13 @@
 mod copies;
 mod details;
 mod equal;
+mod fault;
 mod heads;
+mod names;
 mod operands;
+mod walk;
 
 pub use copies::copy_expr;
 pub use equal::{is_among, same_expr};
+pub use fault::{CheckFault, Limit, Place};
+pub use names::Names;
