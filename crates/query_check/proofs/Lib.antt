@@ -5,3 +5,4 @@ pub mod Searching
 pub mod Smaller
 pub mod Walking
 pub mod Numbered
+pub mod Ordered

@@ -1,7 +1,7 @@
 -- A list, searched from a place on.
 use Rattle.std.proofs.Common.{◌≡◌, ℕ, zero, suc, ◌+◌, ◌<◌, ◌≤◌, Bool, true, false, List, [], ◌∷◌, length, drop, Option, Some, None, refl, sym, ◌∙◌, ap, arith, add-one}
 use Rattle.std.specs.Prelude.{slice_get, unwrap_or, IsTrue, find}
-use Rattle.std.specs.List.{list_any}
+use Rattle.std.specs.List.{list_any, position_from}
 use Rattle.query_meaning.specs.Tree.{Ex}
 use Rattle.check_meaning.specs.Same.{same_ex}
 use Rattle.check_meaning.proofs.Same.{same_ex-is, same_ex-of}
@@ -49,3 +49,10 @@ same_is a b false h = unequal (same_ex a b) refl
     unequal : (v : Bool) → same_ex a b ≡ v → same_ex a b ≡ false
     unequal true e = let k : false ≡ true = h.1 (same_ex-is a b e) in cc
     unequal false e = e
+
+module _ {A : Type 0} (p : A → Bool) (xs : List A) (k : ℕ) (w : Option ℕ) where
+  pub position_here : (x : A) → slice_get xs k ≡ Some x → p x ≡ true → w ≡ position_from p k (drop k xs) → w ≡ Some k
+  position_here x h t sofar = sofar ∙ (rw (drop_at xs k x h, t) refl)
+
+  pub position_next : (x : A) → slice_get xs k ≡ Some x → p x ≡ false → w ≡ position_from p k (drop k xs) → w ≡ position_from p (k + 1) (drop (k + 1) xs)
+  position_next x h t sofar = sofar ∙ (rw (drop_at xs k x h, t) refl)

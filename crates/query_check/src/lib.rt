@@ -8,6 +8,7 @@ mod fault;
 mod heads;
 mod names;
 mod operands;
+mod order;
 mod walk;
 
 pub use copies::copy_expr;
