@@ -6,3 +6,5 @@ pub mod Smaller
 pub mod Walking
 pub mod Numbered
 pub mod Ordered
+pub mod Placing
+pub mod AllPlaces

@@ -45,7 +45,7 @@ fold_append f b (x ∷ xs) ys = fold_append f (f b x) xs ys
 abbrev pub gathered : List Ex → List Ex → List Ex
 gathered found es = fold with_new found (filter is_aggregate es)
 
-gathered_append : (found xs ys : List Ex) → gathered found (xs ++ ys) ≡ gathered (gathered found xs) ys
+pub gathered_append : (found xs ys : List Ex) → gathered found (xs ++ ys) ≡ gathered (gathered found xs) ys
 gathered_append found xs ys = rw (filter_append is_aggregate xs ys, fold_append with_new found (filter is_aggregate xs) (filter is_aggregate ys)) refl
 
 pub gathered_first : (found : List Ex) (e : Ex) → gathered found (parts e) ≡ gathered (gathered found (e ∷ [])) (flat_map parts (operands e))

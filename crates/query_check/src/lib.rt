@@ -5,10 +5,12 @@ mod copies;
 mod details;
 mod equal;
 mod fault;
+mod firsts;
 mod heads;
 mod names;
 mod operands;
 mod order;
+mod places;
 mod walk;
 
 pub use copies::copy_expr;
