@@ -17,7 +17,7 @@ any_found : {A : Type 0} (p : A → Bool) (xs : List A) → list_any p xs ≡ is
 any_found p [] = refl
 any_found p (x ∷ xs) = elim (p x) as (λ v. (v || list_any p xs) ≡ is_some (cond v (Some x) (find p xs))) [ true ↦ refl | false ↦ any_found p xs ]
 
-some_mapped : {A B : Type 0} (f : A → B) (o : Option A) → is_some (option_map f o) ≡ is_some o
+pub some_mapped : {A B : Type 0} (f : A → B) (o : Option A) → is_some (option_map f o) ≡ is_some o
 some_mapped f None = refl
 some_mapped f (Some x) = refl
 

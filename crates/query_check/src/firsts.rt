@@ -59,9 +59,13 @@ pub(crate) fn is_grouped(query: &Query, names: &Names) -> bool
     requires names { names.now ≡ named.names (outs_view query.now.outputs) }
     ensures { result ≡ aggs.is_grouped (query_view query.now) }
 {
-    query.keys.len() > 0
-        || query.having.is_some()
-        || first_place(Rule::Grouping, query, names).is_some()
+    if query.keys.len() > 0 {
+        return true;
+    }
+    if query.having.is_some() {
+        return true;
+    }
+    first_place(Rule::Grouping, query, names).is_some()
 }
 
 /// Whether the name at a place stands before that place too.
