@@ -1,6 +1,6 @@
 -- What an order key stands for, and where each expression of a query stands.
 use Rattle.std.specs.Prelude.{ℕ, zero, suc, ℤ, pos, negsuc, List, [], ◌∷◌, ◌++◌, map, Option, None, Some, unwrap_or, slice_get}
-use Rattle.std.specs.Option.{option_and_then}
+use Rattle.std.specs.Option.{option_and_then, option_or}
 use Rattle.std.specs.Str.{bytes_eq}
 use Rattle.std.specs.List.{position_from, enumerate_from}
 use Rattle.value_meaning.specs.Val.{int}
@@ -21,16 +21,27 @@ output_at outs (negsuc k) = None
 unfoldable pub output_named : Outs → List ℕ → Option Ex
 output_named outs n = option_and_then (slice_get (output_exs outs)) (position_from (bytes_eq n) 0 (names outs))
 
--- An order key that is a number k stands for output k. One that is a path of one name, from the row, stands for the
--- output of that name, also where that output is another expression. Every other key, and a key that finds no output,
--- is an expression of its own.
-abbrev pub found_output : Outs → Ex → Option Ex
-found_output outs (lit (int k)) = output_at outs k
-found_output outs (path zero (name n ∷ [])) = output_named outs n
-found_output outs e = None
+-- the number that a literal is
+abbrev pub as_number : Ex → Option ℤ
+as_number (lit (int k)) = Some k
+as_number e = None
 
+-- the name that is all of a path from the row
+abbrev pub as_name : Ex → Option (List ℕ)
+as_name (path zero (name n ∷ [])) = Some n
+as_name e = None
+
+-- An order key that is a number k stands for output k. One that is a path of one name stands for the output of that
+-- name, also where that output is another expression. Every other key, and a key that finds no output, is an expression
+-- of its own.
 unfoldable pub order_ex : Outs → Ex → Ex
-order_ex outs e = unwrap_or (found_output outs e) e
+order_ex outs e = unwrap_or (option_or by_number by_name) e
+  where
+    by_number : Option Ex
+    by_number = option_and_then (output_at outs) (as_number e)
+
+    by_name : Option Ex
+    by_name = option_and_then (output_named outs) (as_name e)
 
 -- the expressions at places that are counted from 1
 abbrev pub counted : (ℕ → Place) → List Ex → List (Place × Ex)
@@ -46,7 +57,7 @@ alone at (Some e) = (at, e) ∷ []
 unfoldable pub places : Query → List (Place × Ex)
 places q =
     counted output (output_exs q.outs)
-    ++ alone where_test q.filter
-    ++ counted group_key q.keys
-    ++ alone having q.having
-    ++ counted order_key (map (λ k. order_ex q.outs k.0) q.order)
+      ++ (alone where_test q.filter
+        ++ (counted group_key q.keys
+          ++ (alone having q.having
+            ++ counted order_key (map (λ k. order_ex q.outs k.0) q.order))))

@@ -1,16 +1,15 @@
 -- Whether a query is accepted, and its first fault where it isn't.
 use Rattle.std.specs.Prelude.{ℕ, Bool, false, ◌-◌, List, [], ◌∷◌, map, length, take, Option, None, Some, is_some, is_none, nat_lt, if◌then◌else◌, find}
-use Rattle.std.specs.Option.{option_map, option_or}
+use Rattle.std.specs.Option.{option_map, option_map_or, option_or}
 use Rattle.std.specs.Str.{bytes_eq}
 use Rattle.std.specs.List.{list_any, enumerate_from}
-use Rattle.value_meaning.specs.Val.{int}
-use Rattle.query_meaning.specs.Tree.{Ex, lit, Outs, star, named, Query}
+use Rattle.query_meaning.specs.Tree.{Ex, Outs, star, named, Query}
 use Rattle.check_meaning.specs.Limit.{Limit, most}
 use Rattle.check_meaning.specs.Limit as limit
 use Rattle.check_meaning.specs.Place.{Place, output}
 use Rattle.check_meaning.specs.Fault.{Fault, too_many, nested, not_grouped, over_groups, same_name, no_such_order}
 use Rattle.check_meaning.specs.Names.{names}
-use Rattle.check_meaning.specs.Places.{output_exs, output_at, places}
+use Rattle.check_meaning.specs.Places.{output_exs, output_at, as_number, places}
 use Rattle.check_meaning.specs.Aggregates.{aggregates, is_grouped}
 use Rattle.check_meaning.specs.Tests.{has_long_path, is_nested, is_not_grouped, is_over_groups}
 
@@ -52,8 +51,7 @@ first_same_name outs = first_number (λ n. list_any (bytes_eq n.1) (take (n.0 - 
 
 -- the number of no output; `*` has no outputs
 abbrev pub is_no_number : Outs → Ex → Bool
-is_no_number outs (lit (int k)) = is_none (output_at outs k)
-is_no_number outs e = false
+is_no_number outs e = option_map_or (λ k. is_none (output_at outs k)) (as_number e) false
 
 -- the first order key, as it is written, that is the number of no output
 unfoldable pub first_no_output : Query → Option ℕ

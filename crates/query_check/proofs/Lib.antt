@@ -1,0 +1,12 @@
+pub mod Chains
+pub mod Listed
+pub mod Rebuilt
+pub mod Searching
+pub mod Smaller
+pub mod Walking
+pub mod Numbered
+pub mod Ordered
+pub mod Placing
+pub mod AllPlaces
+pub mod Limits
+pub mod FirstNumber

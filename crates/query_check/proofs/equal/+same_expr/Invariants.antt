@@ -1,0 +1,11 @@
+use Rattle.std.proofs.Common.{◌≡◌, take}
+use Rattle.query_meaning.specs.Tree.{size}
+use Rattle.check_meaning.specs.Operands.{operands}
+use Rattle.sql_tree.specs.View.{view}
+use Rattle.query_check.proofs.equal.+same_expr.Given as goal
+
+abbrev pub decreases-same_expr : goal.decreases-same_expr
+decreases-same_expr l = size (view l.a.now)
+
+abbrev pub invariant-loop-at : goal.invariant-loop-at
+invariant-loop-at l = take l.at (operands (view l.a)) ≡ take l.at (operands (view l.b))

@@ -1,0 +1,14 @@
+use Rattle.std.proofs.Common.{◌≡◌, drop}
+use Rattle.std.specs.List.{flat_map}
+use Rattle.query_meaning.specs.Tree.{size}
+use Rattle.check_meaning.specs.Operands.{operands}
+use Rattle.check_meaning.specs.Parts.{parts}
+use Rattle.sql_tree.specs.View.{view}
+use Rattle.query_check.proofs.Walking.{gathered}
+use Rattle.query_check.proofs.walk.+gather.Given as goal
+
+abbrev pub decreases-gather : goal.decreases-gather
+decreases-gather l = size (view l.expr.now)
+
+abbrev pub invariant-loop-at : goal.invariant-loop-at
+invariant-loop-at l = gathered l.fn.found (parts (view l.expr)) ≡ gathered l.found (flat_map parts (drop l.at (operands (view l.expr))))

@@ -1,0 +1,28 @@
+use Rattle.std.proofs.Common.{refl, sym, ◌∙◌, arith}
+use Rattle.sql_tree.specs.View.{view}
+use Rattle.check_meaning.specs.Operands.{operands}
+use Rattle.check_meaning.proofs.OperandParts.{operand_falls}
+use Rattle.check_meaning.specs.Parts.{none}
+use Rattle.check_meaning.specs.Tests.{is_doubled}
+use Rattle.query_check.proofs.Walking.{stopped, found_first, found_later, found_in, not_in, not_found}
+use Rattle.query_check.proofs.walk.+has_doubled.Goals as goal
+
+pub has_doubled-requires : goal.has_doubled-requires
+has_doubled-requires t c =
+    let smaller = operand_falls (view c.args.expr.now) c.loop-at.at (view c.operand.result.now) c.operand.ensures in
+    (omega (arith, smaller, c.decreases), tt)
+
+pub returns-then-is_doubled : goal.returns-then-is_doubled
+returns-then-is_doubled t c = found_first none is_doubled (view c.args.expr.now) refl (sym c.is_doubled.ensures ∙ c.if-is_doubled.true)
+
+pub loop-at-init : goal.loop-at-init
+loop-at-init t c = found_later none is_doubled (view c.args.expr.now) refl (sym c.is_doubled.ensures ∙ c.if-is_doubled.false)
+
+pub returns-then-has_doubled : goal.returns-then-has_doubled
+returns-then-has_doubled t c = sym (found_in none is_doubled (operands (view c.args.expr.now)) c.loop-at.at _ _ c.operand.ensures (sym c.has_doubled.ensures ∙ c.if-has_doubled.true) c.loop-at.invariant)
+
+pub loop-at-preserved : goal.loop-at-preserved
+loop-at-preserved t c = not_in none is_doubled (operands (view c.args.expr.now)) c.loop-at.at _ _ c.operand.ensures (sym c.has_doubled.ensures ∙ c.if-has_doubled.false) c.loop-at.invariant
+
+pub returns : goal.returns
+returns t c = sym (not_found none is_doubled (operands (view c.args.expr.now)) c.loop-at.at _ (omega (arith, c.loop-at-test.false, c.operand_count-at-end.ensures)) c.loop-at.invariant)

@@ -1,0 +1,4 @@
+pub mod Heads
+pub mod Asked
+pub mod Faults
+pub mod Placed

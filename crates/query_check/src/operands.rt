@@ -1,0 +1,191 @@
+ghost use Rattle.std.specs.Prelude.{◌≡◌, ◌%◌, ◌<◌, Some, [], ◌∷◌, ◌++◌, length, slice_get};
+ghost use Rattle.std.specs.Option.{option_map};
+ghost use Rattle.query_meaning.specs.Tree.{exs, arms};
+ghost use Rattle.check_meaning.specs.Operands.{operands, arm_operands};
+ghost use Rattle.sql_tree.specs.View.{view, arm_view};
+
+use sql_tree::{Arm, Arms, Expr, Exprs, Operand};
+
+/// The first of one expression.
+fn one(of: &Operand, at: u128) -> Option<&Expr>
+    ensures { option_map (λ e. view e.now) result ≡ slice_get (of.now ∷ []) at }
+{
+    match at {
+        0 => Some(of.get()),
+        _ => None,
+    }
+}
+
+/// One of two expressions.
+fn two<'a>(first: &'a Operand, second: &'a Operand, at: u128) -> Option<&'a Expr>
+    ensures { option_map (λ e. view e.now) result ≡ slice_get (first.now ∷ second.now ∷ []) at }
+{
+    match at {
+        0 => Some(first.get()),
+        1 => Some(second.get()),
+        _ => None,
+    }
+}
+
+/// One of three expressions.
+fn three<'a>(
+    first: &'a Operand,
+    second: &'a Operand,
+    third: &'a Operand,
+    at: u128,
+) -> Option<&'a Expr>
+    ensures { option_map (λ e. view e.now) result ≡
+        slice_get (first.now ∷ second.now ∷ third.now ∷ []) at }
+{
+    match at {
+        0 => Some(first.get()),
+        1 => Some(second.get()),
+        2 => Some(third.get()),
+        _ => None,
+    }
+}
+
+/// One of a list.
+fn listed(list: &Exprs, at: u128) -> Option<&Expr>
+    ensures { option_map (λ e. view e.now) result ≡ slice_get list.now at }
+{
+    if at < list.len() as u128 {
+        list.get(at as usize)
+    } else {
+        None
+    }
+}
+
+/// The expression of a list at a place, counted from 0.
+pub(crate) fn item(list: &Exprs, at: usize) -> &Expr
+    requires { at < length list.now }
+    ensures { slice_get list.now at ≡ Some (view result.now) }
+{
+    match list.get(at) {
+        Some(found) => found,
+        None => unreachable!(),
+    }
+}
+
+/// The arm of a CASE at a place, counted from 0.
+pub(crate) fn arm(list: &Arms, at: usize) -> &Arm
+    requires { at < length list.now }
+    ensures { slice_get list.now at ≡ Some (arm_view result.now) }
+{
+    match list.get(at) {
+        Some(found) => found,
+        None => unreachable!(),
+    }
+}
+
+/// One of an expression and a list behind it.
+fn with_list<'a>(of: &'a Operand, list: &'a Exprs, at: u128) -> Option<&'a Expr>
+    ensures { option_map (λ e. view e.now) result ≡ slice_get (of.now ∷ list.now) at }
+{
+    if at == 0 {
+        Some(of.get())
+    } else {
+        listed(list, at - 1)
+    }
+}
+
+/// The condition of an arm at an even place, and its value at an odd one.
+fn side(arm: &Arm, at: u128) -> &Expr
+    ensures even { at % 2 ≡ 0 → view result.now ≡ view arm.now.test }
+    ensures odd { at % 2 ≡ 1 → view result.now ≡ view arm.now.value }
+{
+    if at % 2 == 0 { &arm.test } else { &arm.value }
+}
+
+/// One of the conditions and values of the arms, and the ELSE value behind them.
+fn in_case<'a>(list: &'a Arms, other: &'a Operand, at: u128) -> Option<&'a Expr>
+    ensures { option_map (λ e. view e.now) result ≡
+        slice_get (arm_operands (arms list.now) ++ other.now ∷ []) at }
+{
+    let count = list.len() as u128;
+    if at == 2 * count {
+        return Some(other.get());
+    }
+    if at > 2 * count {
+        return None;
+    }
+    match list.get((at / 2) as usize) {
+        Some(arm) => Some(side(arm, at)),
+        None => None,
+    }
+}
+
+/// The expression that stands directly in another at this place, if there is one.
+#[tactic(auto, using(crate::proofs::Chains::items_exs))]
+fn operand_if(expr: &Expr, at: u128) -> Option<&Expr>
+    ensures { option_map (λ e. view e.now) result ≡ slice_get (operands (view expr.now)) at }
+{
+    match expr {
+        Expr::Lit(_) => None,
+        Expr::Path { row: _, steps: _ } => None,
+        Expr::Neg(of) => one(of, at),
+        Expr::Not(of) => one(of, at),
+        Expr::Bin { op: _, left, right } => two(left, right, at),
+        Expr::Is { what: _, of } => one(of, at),
+        Expr::In { of, list } => with_list(of, list, at),
+        Expr::Between { of, low, high } => three(of, low, high, at),
+        Expr::Match {
+            how: _,
+            of,
+            text: _,
+        } => one(of, at),
+        Expr::Case { arms, other } => in_case(arms, other, at),
+        Expr::Cast { of, to: _ } => one(of, at),
+        Expr::Call { name: _, args } => listed(args, at),
+        Expr::Trunc { part: _, of } => one(of, at),
+        Expr::Extract { part: _, of } => one(of, at),
+        Expr::Shift { part: _, count, of } => two(count, of, at),
+        Expr::Agg { name: _, of: None } => None,
+        Expr::Agg {
+            name: _,
+            of: Some(of),
+        } => one(of, at),
+    }
+}
+
+/// How many expressions stand directly in another.
+#[tactic(auto, using(crate::proofs::Chains::length_exs, crate::proofs::Chains::length_arms))]
+pub(crate) fn operand_count(expr: &Expr) -> u128
+    ensures { result ≡ length (operands (view expr.now)) }
+{
+    match expr {
+        Expr::Lit(_) => 0,
+        Expr::Path { row: _, steps: _ } => 0,
+        Expr::Bin {
+            op: _,
+            left: _,
+            right: _,
+        } => 2,
+        Expr::In { of: _, list } => list.len() as u128 + 1,
+        Expr::Between {
+            of: _,
+            low: _,
+            high: _,
+        } => 3,
+        Expr::Case { arms, other: _ } => 2 * arms.len() as u128 + 1,
+        Expr::Call { name: _, args } => args.len() as u128,
+        Expr::Shift {
+            part: _,
+            count: _,
+            of: _,
+        } => 2,
+        Expr::Agg { name: _, of: None } => 0,
+        _ => 1,
+    }
+}
+
+/// The expression that stands directly in another at this place, counted from 0 in the order of the text.
+pub(crate) fn operand(expr: &Expr, at: u128) -> &Expr
+    requires { at < length (operands (view expr.now)) }
+    ensures { slice_get (operands (view expr.now)) at ≡ Some (view result.now) }
+{
+    match operand_if(expr, at) {
+        Some(found) => found,
+        None => unreachable!(),
+    }
+}
