@@ -33,3 +33,5 @@ pub use sql_fault::SqlFault;
 
 #[cfg(test)]
 mod fault_tests;
+#[cfg(test)]
+mod tests;
