@@ -10,3 +10,4 @@ pub mod Placing
 pub mod AllPlaces
 pub mod Limits
 pub mod FirstNumber
+pub mod FaultOrder

@@ -2,3 +2,6 @@ pub mod Heads
 pub mod Asked
 pub mod Faults
 pub mod Placed
+pub mod CodedQuery
+pub mod Accepted
+pub mod Checks

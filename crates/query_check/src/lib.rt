@@ -11,8 +11,10 @@ mod names;
 mod operands;
 mod order;
 mod places;
+mod verdict;
 mod walk;
 
+pub use verdict::{Checked, check};
 pub use copies::copy_expr;
 pub use equal::{is_among, same_expr};
 pub use fault::{CheckFault, Limit, Place};

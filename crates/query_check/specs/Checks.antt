@@ -1,0 +1,11 @@
+-- What a check answers: the query, which then has no fault, or its first fault.
+use Rattle.std.specs.Prelude.{◌≡◌, Result, Ok, Err, None}
+use Rattle.query_meaning.specs.Tree.{Query}
+use Rattle.check_meaning.specs.Verdict.{fault_of}
+use Rattle.query_check.specs.declared.verdict.Checked.{Checked}
+use Rattle.query_check.specs.declared.fault.CheckFault.{CheckFault}
+use Rattle.query_check.specs.Faults.{IsFirst}
+
+abbrev pub Checks : Query → Result Checked CheckFault → Type 0
+Checks q (Ok c) = (fault_of q ≡ None) × (c ≡ q)
+Checks q (Err e) = IsFirst (fault_of q) e
