@@ -1,6 +1,8 @@
 mod Sink
 mod Verdicts
+mod Built
 mod OneBlock
 mod BlockEnds
 mod Statuses
 mod Headlines
+mod Lines

@@ -57,7 +57,7 @@ there told name P known = λ files e gone. on (files name) (known files e) gone
 -- a file that is there may be misread
 pub may_misread : (told : Option Contents) (name : List ℕ) → IsThere told name → EachAllows told name 8
 may_misread None name is_there no_command f = absurd f
-may_misread None name is_there no_query f = absurd f
+may_misread None name is_there (no_query x) f = absurd f
 may_misread None name is_there no_such_file f = absurd f
 may_misread None name is_there no_block_file f = absurd f
 may_misread None name is_there bad_block f = absurd f
@@ -68,7 +68,7 @@ may_misread (Some files) name is_there v f = on (files name) (is_there files ref
     on : (o : Option (List ℕ)) → (o ≡ None → ⊥) → (v : Verdict) → FindsInFile o v → Allows v 8
     on None there v f = absurd (there refl)
     on (Some b) there no_command f = absurd f
-    on (Some b) there no_query f = absurd f
+    on (Some b) there (no_query x) f = absurd f
     on (Some b) there no_such_file f = absurd f
     on (Some b) there no_block_file f = refl
     on (Some b) there bad_block f = refl
@@ -78,7 +78,7 @@ may_misread (Some files) name is_there v f = on (files name) (is_there files ref
 -- what isn't there may be said to be absent
 pub may_be_absent : (told : Option Contents) (name : List ℕ) → ForSome told (λ files. files name ≡ None) → EachAllows told name 4
 may_be_absent None name gone no_command f = absurd f
-may_be_absent None name gone no_query f = absurd f
+may_be_absent None name gone (no_query x) f = absurd f
 may_be_absent None name gone no_such_file f = absurd f
 may_be_absent None name gone no_block_file f = absurd f
 may_be_absent None name gone bad_block f = absurd f
@@ -89,7 +89,7 @@ may_be_absent (Some files) name gone v f = on (files name) (gone files refl) v f
     on : (o : Option (List ℕ)) → o ≡ None → (v : Verdict) → FindsInFile o v → Allows v 4
     on (Some b) gone v f = absurd (cc)
     on None gone no_command f = absurd f
-    on None gone no_query f = absurd f
+    on None gone (no_query x) f = absurd f
     on None gone no_such_file f = refl
     on None gone no_block_file f = absurd f
     on None gone bad_block f = absurd f
@@ -99,7 +99,7 @@ may_be_absent (Some files) name gone v f = on (files name) (gone files refl) v f
 -- a file without such a block may be said to be no block file
 pub may_be_no_file : (told : Option Contents) (name : List ℕ) → Knows told name HasNoBlock → EachAllows told name 5
 may_be_no_file None name known no_command f = absurd f
-may_be_no_file None name known no_query f = absurd f
+may_be_no_file None name known (no_query x) f = absurd f
 may_be_no_file None name known no_such_file f = absurd f
 may_be_no_file None name known no_block_file f = absurd f
 may_be_no_file None name known bad_block f = absurd f
@@ -110,7 +110,7 @@ may_be_no_file (Some files) name known v f = on (files name) (known files refl) 
     on : (o : Option (List ℕ)) → IsSomeAnd o HasNoBlock → (v : Verdict) → FindsInFile o v → Allows v 5
     on None has v f = absurd has
     on (Some b) has no_command f = absurd f
-    on (Some b) has no_query f = absurd f
+    on (Some b) has (no_query x) f = absurd f
     on (Some b) has no_such_file f = absurd f
     on (Some b) has no_block_file f = refl
     on (Some b) has bad_block f = absurd (has f.0 f.1)

@@ -1,6 +1,7 @@
 -- What a sink holds after pieces of a text.
 use Rattle.std.proofs.Common.{◌≡◌, ℕ, zero, suc, ◌≤◌, List, [], ◌∷◌, ◌++◌, length, take, drop, map, Option, Some, None, refl, ap, ◌∙◌, sym, subst, arith, append_assoc, take-append-drop}
-use Rattle.std.specs.Prelude.{slice_get}
+use Rattle.std.specs.Prelude.{slice_get, OnOk, Result, Ok, Err}
+use Rattle.snel_device.specs.declared.outside.Failed.{Failed}
 use Rattle.std.specs.Io.KnownBytes.{Appends, Keeps}
 use Rattle.std.proofs.lemmas.List.{append-nil, take_all}
 use Rattle.value_meaning.specs.Val.{Val}
@@ -93,3 +94,8 @@ whole_of old new rows n all h =
       whole = λ e. ap rows_text same;
       front = ([], sym (append-nil (rows_text (take n rows)) ∙ ap rows_text same));
     }
+
+-- three pieces, the last of which may fail
+pub three : (r : Result (Unit {0}) Failed) (a b c d : Option (List ℕ)) (x y z : List ℕ) → Appends a b x → Appends b c y → OnOk r (Appends c d z) → OnOk r (Appends a d (x ++ (y ++ z)))
+three (Ok u) a b c d x y z f g h = Appends-both a b d x (y ++ z) f (Appends-both b c d y z g h)
+three (Err e) a b c d x y z f g h = tt

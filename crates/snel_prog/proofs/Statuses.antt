@@ -6,21 +6,30 @@ use Rattle.std.specs.List.{list_any}
 use Rattle.snel_device.specs.Contents.{Contents}
 use Rattle.snel_prog.specs.declared.refusal.Refusal.{Refusal}
 use Rattle.snel_prog.specs.declared.refusal.Refusal.TheVariants.{Words, Query, Absent, NotAFile, Damaged, ReadFault, WriteFault, OutOfMemory}
-use Rattle.snel_prog.specs.Words.{Ask, nothing, query, is_built}
+use Rattle.snel_prog.specs.Words.{Ask, nothing, query}
+use Rattle.snel_prog.specs.Queries.{Refused, Refuses, IsRefused, IsAccepted}
+use Rattle.snel_prog.specs.QueryFaults.{refused_view}
+use Rattle.snel_prog.specs.declared.query_fault.QueryFault.{QueryFault}
+use Rattle.snel_prog.specs.declared.query_fault.QueryFault.TheVariants.{NotBuilt}
 use Rattle.snel_prog.specs.Statuses.{status_of, status_after}
 use Rattle.snel_prog.specs.Verdicts.{Verdict, no_command, no_query, no_such_file, no_block_file, bad_block, rows, unknown, Allows, EndsAs, Exactly, ExactlyOnceRead}
 use Rattle.snel_prog.specs.Causes.{HasNoBlock, HasBadBlock, FindsInFile, Finds, Ends, OfFile}
 use Rattle.snel_prog.specs.Refusals.{Says, HasItsCause}
 
--- the refusal of a status
-abbrev refusal_of : ℕ → Refusal
-refusal_of k =
-    if k == 2 then Words else (if k == 3 then Query else (if k == 4 then Absent else (if k == 5 then NotAFile else
+-- the refusal of a status, of a query for this reason
+abbrev refusal_of : ℕ → QueryFault → Refusal
+refusal_of k q =
+    if k == 2 then Words else (if k == 3 then Query q else (if k == 4 then Absent else (if k == 5 then NotAFile else
     (if k == 6 then Damaged else (if k == 8 then ReadFault else (if k == 9 then WriteFault else OutOfMemory))))))
 
-back : (r : Refusal) → refusal_of (status_of r) ≡ r
+-- the reason of a query's refusal
+abbrev reason_in : Refusal → QueryFault
+reason_in (Query q) = q
+reason_in r = NotBuilt
+
+back : (r : Refusal) → refusal_of (status_of r) (reason_in r) ≡ r
 back Words = refl
-back Query = refl
+back (Query q) = refl
 back Absent = refl
 back NotAFile = refl
 back Damaged = refl
@@ -28,10 +37,30 @@ back ReadFault = refl
 back WriteFault = refl
 back OutOfMemory = refl
 
+-- a refusal that isn't a query's
+abbrev pub IsOther : Refusal → Type 0
+IsOther (Query q) = ⊥
+IsOther r = Unit {0}
+
+other_back : (s : Refusal) (q : QueryFault) → IsOther s → refusal_of (status_of s) q ≡ s
+other_back Words q h = refl
+other_back (Query p) q h = absurd h
+other_back Absent q h = refl
+other_back NotAFile q h = refl
+other_back Damaged q h = refl
+other_back ReadFault q h = refl
+other_back WriteFault q h = refl
+other_back OutOfMemory q h = refl
+
 -- a call that ended with a refusal's status was refused so
-pub refused_by : (r : Result (Unit {0}) Refusal) (s : Refusal) → status_after r ≡ status_of s → (status_of s ≡ 0 → ⊥) → r ≡ Err s
-refused_by (Ok u) s e other = absurd (other (sym e))
-refused_by (Err r) s e other = ap (λ (x : Refusal). Err x) (sym (back r) ∙ ap refusal_of e ∙ back s)
+pub refused_by : (r : Result (Unit {0}) Refusal) (s : Refusal) → IsOther s → status_after r ≡ status_of s → (status_of s ≡ 0 → ⊥) → r ≡ Err s
+refused_by (Ok u) s h e other = absurd (other (sym e))
+refused_by (Err r) s h e other = ap (λ (x : Refusal). Err x) (sym (back r) ∙ ap (λ (k : ℕ). refusal_of k (reason_in r)) e ∙ other_back s (reason_in r) h)
+
+-- a call that ended with status 3 was refused for a reason of its query
+pub query_refused : (r : Result (Unit {0}) Refusal) → status_after r ≡ 3 → (q : QueryFault) × (r ≡ Err (Query q))
+query_refused (Ok u) e = absurd (omega arith)
+query_refused (Err r) e = (reason_in r, ap (λ (x : Refusal). Err x) (sym (back r) ∙ ap (λ (k : ℕ). refusal_of k (reason_in r)) e))
 
 -- a status among those of a verdict
 one_of : (n a : ℕ) (ss : List ℕ) → IsTrue (list_any (λ s. s == n) (a ∷ ss)) → (n ≡ a) ⊎ IsTrue (list_any (λ s. s == n) ss)
@@ -68,23 +97,23 @@ pub record Ended (ask : Ask) (told : Option Contents) (r : Result (Unit {0}) Ref
   pub cause : HasItsCause ask told r
 
 module _ (told : Option Contents) (r : Result (Unit {0}) Refusal) (status : ℕ) (old new : Option (List ℕ)) where
-  said : (ask : Ask) (s : Refusal) → Ended ask told r status old new → status ≡ status_of s → (status_of s ≡ 0 → ⊥) → Says ask told s
-  said ask s h e other = let is = refused_by r s (sym h.is ∙ e) other in let cause = h.cause in rw is at cause
+  said : (ask : Ask) (s : Refusal) → IsOther s → Ended ask told r status old new → status ≡ status_of s → (status_of s ≡ 0 → ⊥) → Says ask told s
+  said ask s o h e other = let is = refused_by r s o (sym h.is ∙ e) other in let cause = h.cause in rw is at cause
 
   pub bad_words : (ask : Ask) → Ended ask told r status old new → Exactly 2 status (ask ≡ nothing)
   bad_words nothing h = record { only = λ e. refl; always = λ e. one_of_two status 2 10 (h.ends no_command tt).allowed }
-  bad_words (query sql name) h = record { only = λ e. absurd ((said (query sql name) Words h e (λ z. omega arith)).1); always = λ e. absurd (cc) }
+  bad_words (query sql name) h = record { only = λ e. absurd ((said (query sql name) Words tt h e (λ z. omega arith)).1); always = λ e. absurd (cc) }
 
-  pub bad_query : (sql name : List ℕ) → Ended (query sql name) told r status old new → Exactly 3 status (is_built sql ≡ false)
+  pub bad_query : (sql name : List ℕ) → Ended (query sql name) told r status old new → Exactly 3 status (IsRefused sql)
   bad_query sql name h = record {
-    only = λ e. said (query sql name) Query h e (λ z. omega arith);
-    always = λ e. one_of_two status 3 10 (h.ends no_query e).allowed;
+    only = λ e. let q = query_refused r (sym h.is ∙ e) in let is = q.1 in let cause = h.cause in (refused_view q.0, rw is at cause);
+    always = λ e. one_of_two status 3 10 (h.ends (no_query e.0) e.1).allowed;
   }
 
-module _ (sql name : List ℕ) (files : Contents) (r : Result (Unit {0}) Refusal) (status : ℕ) (old new : Option (List ℕ)) (h : Ended (query sql name) (Some files) r status old new) (built : is_built sql ≡ true) where
+module _ (sql name : List ℕ) (files : Contents) (r : Result (Unit {0}) Refusal) (status : ℕ) (old new : Option (List ℕ)) (h : Ended (query sql name) (Some files) r status old new) (built : IsAccepted sql) where
   absent_exactly : Exactly 4 status (files name ≡ None)
   absent_exactly = record {
-    only = λ e. (said (Some files) r status old new (query sql name) Absent h e (λ z. omega arith)).1;
+    only = λ e. (said (Some files) r status old new (query sql name) Absent tt h e (λ z. omega arith)).1;
     always = λ e. let P : Option (List ℕ) → Type 0 = λ o. FindsInFile o no_such_file in one_of_two status 4 10 (h.ends no_such_file (built, subst P (sym e) tt)).allowed;
   }
 
@@ -94,7 +123,7 @@ module _ (sql name : List ℕ) (files : Contents) (r : Result (Unit {0}) Refusal
       let Q : Option (List ℕ) → Type 0 = λ o. IsSomeAnd o HasNoBlock in
       let P : Option (List ℕ) → Type 0 = λ o. FindsInFile o no_block_file in
       record {
-        only = λ e. subst Q is ((said (Some files) r status old new (query sql name) NotAFile h e (λ z. omega arith)).1 files refl);
+        only = λ e. subst Q is ((said (Some files) r status old new (query sql name) NotAFile tt h e (λ z. omega arith)).1 files refl);
         always = λ none. one_of_three status 5 10 (h.ends no_block_file (built, subst P (sym is) none)).allowed;
       }
 
@@ -104,7 +133,7 @@ module _ (sql name : List ℕ) (files : Contents) (r : Result (Unit {0}) Refusal
       let Q : Option (List ℕ) → Type 0 = λ o. IsSomeAnd o HasBadBlock in
       let P : Option (List ℕ) → Type 0 = λ o. FindsInFile o bad_block in
       record {
-        only = λ e. subst Q is ((said (Some files) r status old new (query sql name) Damaged h e (λ z. omega arith)).1 files refl);
+        only = λ e. subst Q is ((said (Some files) r status old new (query sql name) Damaged tt h e (λ z. omega arith)).1 files refl);
         always = λ bad. one_of_three status 6 10 (h.ends bad_block (built, subst P (sym is) bad)).allowed;
       }
 

@@ -1,11 +1,12 @@
 -- Which verdict the words and the files give rise to: a line for each cause, in the order of refusals.
-use Rattle.std.specs.Prelude.{◌≡◌, ℕ, true, false, List, [], ◌∷◌, length, ⊤, Option, Some, None}
+use Rattle.std.specs.Prelude.{◌≡◌, ℕ, List, [], ◌∷◌, length, ⊤, Option, Some, None}
 use Rattle.snel_device.specs.Contents.{Contents}
 use Rattle.value_meaning.specs.Val.{Val}
 use Rattle.block_meaning.specs.Tables.{Table}
 use Rattle.block_meaning.specs.Blocks.{IsBlock, IsDamaged}
 use Rattle.file_meaning.specs.Files.{Entry, IsFile, bytes_at}
-use Rattle.snel_prog.specs.Words.{Ask, nothing, query, is_built}
+use Rattle.snel_prog.specs.Words.{Ask, nothing, query}
+use Rattle.snel_prog.specs.Queries.{IsAccepted, Refuses}
 use Rattle.snel_prog.specs.Verdicts.{Verdict, no_command, no_query, no_such_file, no_block_file, bad_block, rows, unknown, Allows, EndsAs}
 
 -- the bytes aren't a block file of one block with no indexed field
@@ -40,16 +41,16 @@ FindsInFiles None name verdict = ⊥
 -- what words and files give rise to
 abbrev pub Finds : Ask → Option Contents → Verdict → Type 0
 Finds nothing told no_command = ⊤
-Finds (query sql name) told no_query = is_built sql ≡ false
-Finds (query sql name) told verdict = (is_built sql ≡ true) × FindsInFiles told name verdict
+Finds (query sql name) told (no_query f) = Refuses sql f
+Finds (query sql name) told verdict = IsAccepted sql × FindsInFiles told name verdict
 Finds ask told verdict = ⊥
 
 -- A call ended as each verdict allows that the words and the files give rise to. There is exactly one: each cause stands
 -- beside its absence, and a file has one index and a block one list of rows.
 abbrev pub Ends : Ask → Option Contents → ℕ → Option (List ℕ) → Option (List ℕ) → Type 0
-Ends ask told status old new = (verdict : Verdict) → Finds ask told verdict → EndsAs verdict status old new
+Ends ask told status old new = (verdict : Verdict) → Finds ask told verdict → EndsAs ask verdict status old new
 
 -- this holds of the file that an accepted query names, where files tell whether it is there and what it holds
 abbrev pub OfFile : Ask → Option Contents → (Option (List ℕ) → Type 0) → Type 0
-OfFile (query sql name) (Some files) P = is_built sql ≡ true → P (files name)
+OfFile (query sql name) (Some files) P = IsAccepted sql → P (files name)
 OfFile ask told P = ⊤

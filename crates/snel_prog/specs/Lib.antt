@@ -1,4 +1,6 @@
 pub mod Words
+pub mod Queries
+pub mod QueryFaults
 pub mod Asked
 pub mod Statuses
 pub mod Messages
@@ -8,3 +10,4 @@ pub mod Loading
 pub mod Refusals
 pub mod Headline
 pub mod Written
+pub mod Reports

@@ -1,13 +1,68 @@
 -- The line that each status writes to standard error.
 use Rattle.std.specs.Prelude.{ℕ, ◌==◌, if◌then◌else◌, List, [], ◌++◌, codes, slice_get, unwrap_or}
+use Rattle.std.specs.Fmt.{decimal}
+use Rattle.query_meaning.specs.Faults as text
+use Rattle.check_meaning.specs.Limit as limit
+use Rattle.check_meaning.specs.Limit.{Limit}
+use Rattle.check_meaning.specs.Place as place
+use Rattle.check_meaning.specs.Place.{Place}
+use Rattle.check_meaning.specs.Fault as fault
+use Rattle.check_meaning.specs.Fault.{Fault}
+use Rattle.snel_prog.specs.Queries.{Refused, unread, unchecked, not_built}
 
 abbrev pub about : List ℕ → List ℕ → List ℕ
 about name what = codes "snel: " ++ name ++ what
 
+-- words and a number
+abbrev pub numbered : List ℕ → ℕ → List ℕ
+numbered words n = words ++ decimal n
+
+-- why a text is no text of a query
+abbrev pub reading_words : text.Verdict → List ℕ
+reading_words text.too_long = codes "too long"
+reading_words (text.bad_token n) = numbered (codes "bad token at byte ") n
+reading_words text.too_many = codes "too many tokens"
+reading_words (text.refused n) = numbered (codes "refused word at byte ") n
+reading_words (text.too_deep n) = numbered (codes "nested too deep at byte ") n
+reading_words text.not_a_query = codes "not a query"
+reading_words (text.is_query q) = []
+
+abbrev pub limit_words : Limit → List ℕ
+limit_words limit.outputs = codes "outputs"
+limit_words limit.group_keys = codes "group keys"
+limit_words limit.order_keys = codes "order keys"
+limit_words limit.steps = codes "steps"
+limit_words limit.aggregates = codes "aggregates"
+
+abbrev pub place_words : Place → List ℕ
+place_words (place.output n) = numbered (codes "output ") n
+place_words place.where_test = codes "WHERE"
+place_words (place.group_key n) = numbered (codes "group key ") n
+place_words place.having = codes "HAVING"
+place_words (place.order_key n) = numbered (codes "order key ") n
+
+-- why a query isn't accepted
+abbrev pub check_words : Fault → List ℕ
+check_words (fault.too_many l) = codes "too many " ++ limit_words l
+check_words (fault.nested p) = place_words p ++ codes " has a misplaced aggregate"
+check_words (fault.not_grouped p) = place_words p ++ codes " is not grouped"
+check_words (fault.over_groups p) = place_words p ++ codes " is not allowed over groups"
+check_words (fault.same_name n) = numbered (codes "output ") n ++ codes " has an earlier name"
+check_words (fault.no_such_order n) = numbered (codes "order key ") n ++ codes " has no output"
+
+abbrev pub refused_words : Refused → List ℕ
+refused_words (unread v) = reading_words v
+refused_words (unchecked f) = check_words f
+refused_words not_built = codes "not built yet"
+
+-- the line of status 3
+abbrev pub query_line : Refused → List ℕ
+query_line f = codes "snel: query: " ++ (refused_words f ++ codes "\n")
+
+-- the line of each other status
 abbrev pub message : ℕ → List ℕ → List ℕ
 message status name =
     if status == 2 then codes "snel: words not understood\n" else
-    if status == 3 then codes "snel: query: not a query\n" else
     if status == 4 then about name (codes ": no such file\n") else
     if status == 5 then about name (codes ": not a block file\n") else
     if status == 6 then about name (codes ": block 0 is damaged\n") else
@@ -18,6 +73,6 @@ message status name =
 abbrev pub name_in : List (List ℕ) → List ℕ
 name_in words = unwrap_or (slice_get words 2) []
 
--- nothing at status 0, else the line of the status
+-- nothing at status 0, else the line of the status, which isn't 3
 abbrev pub line_of : ℕ → List (List ℕ) → List ℕ
 line_of status words = if status == 0 then [] else message status (name_in words)

@@ -1,8 +1,10 @@
 -- What each refusal says of the words and the files.
-use Rattle.std.specs.Prelude.{◌≡◌, ℕ, true, false, List, [], ◌∷◌, ⊤, Option, Some, None, Result, Ok, Err}
+use Rattle.std.specs.Prelude.{◌≡◌, ℕ, List, [], ◌∷◌, ⊤, Option, Some, None, Result, Ok, Err}
 use Rattle.std.specs.Io.KnownBytes.{Keeps}
 use Rattle.snel_device.specs.Contents.{Contents}
-use Rattle.snel_prog.specs.Words.{Ask, nothing, query, is_built}
+use Rattle.snel_prog.specs.Words.{Ask, nothing, query}
+use Rattle.snel_prog.specs.Queries.{IsAccepted, Refuses}
+use Rattle.snel_prog.specs.QueryFaults.{refused_view}
 use Rattle.snel_prog.specs.Causes.{HasNoBlock, HasBadBlock}
 use Rattle.time_index.specs.Answers.{Knows}
 use Rattle.snel_prog.specs.declared.refusal.Refusal.{Refusal}
@@ -16,7 +18,7 @@ IsAbsent (Some files) name = files name ≡ None
 -- what a refusal says of the file of this name
 abbrev pub SaysOfFile : Option Contents → List ℕ → Refusal → Type 0
 SaysOfFile told name Words = ⊥
-SaysOfFile told name Query = ⊥
+SaysOfFile told name (Query f) = ⊥
 SaysOfFile told name Absent = IsAbsent told name
 SaysOfFile told name NotAFile = Knows told name HasNoBlock
 SaysOfFile told name Damaged = Knows told name HasBadBlock
@@ -24,10 +26,17 @@ SaysOfFile told name ReadFault = ⊤
 SaysOfFile told name WriteFault = ⊤
 SaysOfFile told name OutOfMemory = ⊤
 
+-- what a refusal by its text alone says of a query
+abbrev pub IsTextRefusal : List ℕ → Refusal → Type 0
+IsTextRefusal sql (Query f) = Refuses sql (refused_view f)
+IsTextRefusal sql OutOfMemory = ⊤
+IsTextRefusal sql refusal = ⊥
+
 -- what a refusal says of a query over a file
 abbrev pub SaysOfQuery : List ℕ → Option Contents → List ℕ → Refusal → Type 0
-SaysOfQuery sql told name Query = is_built sql ≡ false
-SaysOfQuery sql told name refusal = (is_built sql ≡ true) × SaysOfFile told name refusal
+SaysOfQuery sql told name (Query f) = Refuses sql (refused_view f)
+SaysOfQuery sql told name OutOfMemory = ⊤
+SaysOfQuery sql told name refusal = IsAccepted sql × SaysOfFile told name refusal
 
 -- what a refusal says of what is asked
 abbrev pub Says : Ask → Option Contents → Refusal → Type 0

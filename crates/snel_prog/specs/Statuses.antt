@@ -5,7 +5,7 @@ use Rattle.snel_prog.specs.declared.refusal.Refusal.TheVariants.{Words, Query, A
 
 abbrev pub status_of : Refusal → ℕ
 status_of Words = 2
-status_of Query = 3
+status_of (Query f) = 3
 status_of Absent = 4
 status_of NotAFile = 5
 status_of Damaged = 6

@@ -16,7 +16,3 @@ abbrev pub asked : List (List ℕ) → Ask
 asked (command ∷ sql ∷ name ∷ []) =
     if bytes_eq command (codes "query") && is_operand sql && is_operand name then query sql name else nothing
 asked words = nothing
-
--- the one query that this stage answers
-abbrev pub is_built : List ℕ → Bool
-is_built sql = bytes_eq sql (codes "SELECT * FROM logs")

@@ -1,6 +1,6 @@
 //! What the words ask.
 ghost use Rattle.std.specs.Prelude.{◌≡◌, ◌∷◌, []};
-ghost use Rattle.snel_prog.specs.Words.{asked, is_operand, is_built};
+ghost use Rattle.snel_prog.specs.Words.{asked, is_operand};
 ghost use Rattle.snel_prog.specs.Asked.{ask_view};
 
 use snel_values::Words;
@@ -23,13 +23,6 @@ fn is_operand(word: &str) -> bool
     ensures { result ≡ is_operand word.now }
 {
     !word.is_empty() && !word.starts_with("--")
-}
-
-/// Whether a query's text is one that this stage answers.
-pub fn is_built(sql: &str) -> bool
-    ensures { result ≡ is_built sql.now }
-{
-    sql == "SELECT * FROM logs"
 }
 
 /// What the words ask.

@@ -1,15 +1,18 @@
 //! snel answers SQL over block files of log records with JSON lines and a status.
 #![tactic(auto)]
 
+mod accept;
 mod ask;
 mod load;
 mod query;
+mod query_fault;
 mod refusal;
 mod report;
 mod run;
 #[cfg(test)]
 mod tests;
 
+use refusal::Refusal;
 use run::snel;
 use snel_device::{HostFiles, HostInput, HostOut, OpenGate};
 use snel_values::Words;
@@ -17,17 +20,17 @@ use std::io::ErrorKind;
 use std::process::ExitCode;
 use std::{env, rt};
 
-// The words after the program's name, or the status of what stands against them.
-fn words_of<R: rt::Env + AllocGlobal>(rt: &R) -> Result<Words, u8> {
+// The words after the program's name, or what stands against them.
+fn words_of<R: rt::Env + AllocGlobal>(rt: &R) -> Result<Words, Refusal> {
     let args = match env::args(rt) {
         Ok(args) => args,
-        Err(e) if e.kind() == ErrorKind::OutOfMemory => return Err(10),
-        Err(_) => return Err(2),
+        Err(e) if e.kind() == ErrorKind::OutOfMemory => return Err(Refusal::OutOfMemory),
+        Err(_) => return Err(Refusal::Words),
     };
     let mut words = Words::new(rt.alloc());
     for arg in args.skip(1) {
         if words.push(arg.as_str()).is_err() {
-            return Err(10);
+            return Err(Refusal::OutOfMemory);
         }
     }
     Ok(words)
@@ -37,9 +40,9 @@ fn main(rt: HostRuntime) -> ExitCode {
     let mut err = HostOut::new(rt.stderr());
     let words = match words_of(&rt) {
         Ok(words) => words,
-        Err(status) => {
-            report::report(status, "", &mut err);
-            return ExitCode::from(status);
+        Err(refusal) => {
+            report::report(refusal, "", &mut err);
+            return ExitCode::from(refusal.status());
         }
     };
     let mut files = HostFiles::new(&rt);

@@ -1,15 +1,17 @@
 //! A query over a file: from its text to its lines.
-ghost use Rattle.std.specs.Prelude.{◌≡◌, ◌+◌, ◌<◌, ◌^◌, length, IfOk, IsErrOf};
+ghost use Rattle.std.specs.Prelude.{◌≡◌, ℕ, List, ◌+◌, ◌<◌, ◌^◌, length, IfOk, IsErrOf};
 ghost use Rattle.snel_device.specs.Causes.{HasCause, Rose};
 ghost use Rattle.block_meaning.specs.Blocks.{IsDamaged};
 ghost use Rattle.snel_prog.specs.Words.{query};
 ghost use Rattle.snel_prog.specs.Statuses.{status_after, IsWriteOrMemory, IsBlockRefusal};
+ghost use Rattle.snel_prog.specs.Words.{Ask};
+ghost use Rattle.snel_prog.specs.Queries.{IsAccepted};
 ghost use Rattle.snel_prog.specs.Verdicts.{Verdict, EndsAs};
 ghost use Rattle.snel_prog.specs.Causes.{Ends, FindsInBlock};
 ghost use Rattle.snel_prog.specs.Refusals.{HasItsCause, IsQuiet};
 ghost use Rattle.snel_prog.specs.Written.{Writes, rows_text};
 
-use crate::ask::is_built;
+use crate::accept::accept;
 use crate::load::{Stored, load};
 use crate::refusal::Refusal;
 use block_file::{Block, BlockFault, open_block};
@@ -35,8 +37,9 @@ pub fn run_query<F: Files, O: Out>(
     ensures told { F.told files.new ≡ F.told files.old }
     ensures same_write_faults { F.write_faults files.new ≡ F.write_faults files.old }
 {
-    if !is_built(sql) {
-        return Err(Refusal::Query);
+    match accept(alloc, sql) {
+        Ok(()) => {}
+        Err(refusal) => return Err(refusal),
     }
     let stored = match load(alloc, files, name) {
         Ok(stored) => stored,
@@ -47,7 +50,7 @@ pub fn run_query<F: Files, O: Out>(
 
 // Writes the rows of a block that isn't damaged.
 fn write_stored<O: Out>(alloc: Global, stored: &Stored, out: &mut O) -> Result<(), Refusal>
-    ensures ends { (verdict : Verdict) → FindsInBlock stored.now.rows stored.now.bytes.items verdict → EndsAs verdict (status_after result) (O.holds out.old) (O.holds out.new) }
+    ensures ends { (sql name : List ℕ) (verdict : Verdict) → FindsInBlock stored.now.rows stored.now.bytes.items verdict → EndsAs (query sql name) verdict (status_after result) (O.holds out.old) (O.holds out.new) }
     ensures quiet { IsQuiet result (O.holds out.old) (O.holds out.new) }
     ensures damaged { IsErrOf result Refusal.Damaged → IsDamaged stored.now.rows stored.now.bytes.items }
     ensures refused { IsBlockRefusal result }

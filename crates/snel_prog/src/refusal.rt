@@ -1,10 +1,12 @@
+use crate::query_fault::QueryFault;
+
 /// Why a call ended without the whole answer.
 #[derive(Clone, Copy, Debug, PartialEq, Eq)]
 pub enum Refusal {
     /// The words aren't accepted.
     Words,
     /// The query is refused.
-    Query,
+    Query(QueryFault),
     /// The file is absent.
     Absent,
     /// The file is no block file.
@@ -29,7 +31,7 @@ impl Refusal {
     {
         match self {
             Refusal::Words => 2,
-            Refusal::Query => 3,
+            Refusal::Query(_) => 3,
             Refusal::Absent => 4,
             Refusal::NotAFile => 5,
             Refusal::Damaged => 6,

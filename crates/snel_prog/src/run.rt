@@ -2,9 +2,10 @@
 ghost use Rattle.std.specs.Prelude.{◌≡◌, ◌≢◌, ◌⊎◌, List, ℕ, None, IfSome, IsErrOf, false};
 ghost use Rattle.std.specs.Io.KnownBytes.{Appends, Keeps};
 ghost use Rattle.snel_device.specs.Causes.{Rose};
-ghost use Rattle.snel_prog.specs.Words.{asked, nothing, query, is_built};
+ghost use Rattle.snel_prog.specs.Words.{asked, nothing, query};
+ghost use Rattle.snel_prog.specs.Queries.{Refused, Refuses, IsRefused};
 ghost use Rattle.snel_prog.specs.Statuses.{status_after};
-ghost use Rattle.snel_prog.specs.Messages.{line_of};
+ghost use Rattle.snel_prog.specs.Messages.{line_of, query_line};
 ghost use Rattle.snel_prog.specs.Verdicts.{rows, Exactly, ExactlyOnceRead};
 ghost use Rattle.value_meaning.specs.Val.{Val};
 ghost use Rattle.snel_prog.specs.Causes.{Finds, Ends, OfFile, HasNoBlock, HasBadBlock};
@@ -43,7 +44,7 @@ pub fn snel<R: Threads + Sync, F: Files, I: Input + Send, O: Out, E: Out, G: Gat
 
     // When each status comes.
     ensures bad_words { Exactly 2 result (asked words.now ≡ nothing) }
-    ensures bad_query { (sql name : List ℕ) → asked words.now ≡ query sql name → Exactly 3 result (is_built sql ≡ false) }
+    ensures bad_query { (sql name : List ℕ) → asked words.now ≡ query sql name → Exactly 3 result (IsRefused sql) }
     ensures absent_told { OfFile (asked words.now) (F.told files.old) (λ file. Exactly 4 result (file ≡ None)) }
     ensures no_block_file { OfFile (asked words.now) (F.told files.old) (λ file. IfSome file (λ bytes. ExactlyOnceRead 5 result (HasNoBlock bytes))) }
     ensures bad_block { OfFile (asked words.now) (F.told files.old) (λ file. IfSome file (λ bytes. ExactlyOnceRead 6 result (HasBadBlock bytes))) }
@@ -58,14 +59,14 @@ pub fn snel<R: Threads + Sync, F: Files, I: Input + Send, O: Out, E: Out, G: Gat
     ensures told { F.told files.new ≡ F.told files.old }
     ensures same_write_faults { F.write_faults files.new ≡ F.write_faults files.old }
     ensures input { I.left _input.new ≡ I.left _input.old }
-    ensures line { ¬ Rose (E.faults err.old) (E.faults err.new) → Appends (E.holds err.old) (E.holds err.new) (line_of result words.now) }
+    ensures line { result ≢ 3 → ¬ Rose (E.faults err.old) (E.faults err.new) → Appends (E.holds err.old) (E.holds err.new) (line_of result words.now) }
+    ensures query_line { (sql name : List ℕ) (f : Refused) → asked words.now ≡ query sql name → Refuses sql f → result ≡ 3 → ¬ Rose (E.faults err.old) (E.faults err.new) → Appends (E.holds err.old) (E.holds err.new) (query_line f) }
 {
     match run(alloc, words, files, out) {
         Ok(()) => 0,
         Err(refusal) => {
-            let status = refusal.status();
-            report(status, words.get(2).unwrap_or(""), err);
-            status
+            report(refusal, words.get(2).unwrap_or(""), err);
+            refusal.status()
         }
     }
 }

@@ -147,6 +147,72 @@ fn each_status_comes(rt: HostRuntime) -> Result<(), Fail> {
 }
 
 #[test]
+fn each_refused_query_says_why(rt: HostRuntime) -> Result<(), Fail> {
+    let long = [b' '; 65_537];
+    let Ok(long) = std::str::from_utf8(&long) else {
+        return Err("no text".into())
+    };
+    for (sql, why) in [
+        ("SELECT 1.5 FROM logs", "bad token at byte 8"),
+        ("SELECT a--b FROM t", "bad token at byte 8"),
+        ("SELECT * FROM a JOIN b", "refused word at byte 16"),
+        ("SELECT FROM t", "not a query"),
+        (long, "too long"),
+        ("SELECT a, COUNT(*) FROM logs", "output 1 is not grouped"),
+        (
+            "SELECT a FROM t WHERE SUM(a) > 1",
+            "WHERE has a misplaced aggregate",
+        ),
+        (
+            "SELECT a AS x, b AS x FROM t",
+            "output 2 has an earlier name",
+        ),
+        ("SELECT a FROM t ORDER BY 2", "order key 1 has no output"),
+        (
+            "SELECT CAST(COUNT(*) AS BOOLEAN) FROM t",
+            "output 1 is not allowed over groups",
+        ),
+        ("SELECT a FROM t", "not built yet"),
+        ("SELECT * FROM t LIMIT 1", "not built yet"),
+    ] {
+        let alloc = rt.alloc();
+        let words = words_of(alloc, &["query", sql, "rows"])?;
+        let mut files = stored(alloc, &[])?;
+        let mut input = SteadyInput::new(&[]);
+        let (mut out, mut err) = (MemOut::new(alloc, &[])?, MemOut::new(alloc, &[])?);
+        let status = snel(
+            &rt, alloc, &words, &mut files, &mut input, &mut out, &mut err, &OpenGate,
+        );
+        assert_eq!(rt; status, 3);
+        assert!(rt; out.bytes().is_empty());
+        let Some(line) = err.bytes().strip_prefix(b"snel: query: ") else {
+            return Err("another line".into())
+        };
+        assert_eq!(rt; line.strip_suffix(b"\n"), Some(why.as_bytes()));
+    }
+    Ok(())
+}
+
+// Words of a query in any case, over any name.
+#[test]
+fn names_of_sources_are_free(rt: HostRuntime) -> Result<(), Fail> {
+    ends(
+        &rt,
+        &["query", "select * from anything", "rows"],
+        &[],
+        &[],
+        (0, LINES, ""),
+    )?;
+    ends(
+        &rt,
+        &["query", "SELECT * FROM \"any \"\"thing\" AS t OFFSET 0", "rows"],
+        &[],
+        &[],
+        (0, LINES, ""),
+    )
+}
+
+#[test]
 fn no_fault_of_the_error_output_changes_a_status(rt: HostRuntime) -> Result<(), Fail> {
     ends_beside(&rt, &["query"], &[], &[], &[(1, 0)], (2, "", ""))?;
     ends_beside(
