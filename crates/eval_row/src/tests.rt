@@ -190,28 +190,38 @@ fn divides_towards_zero(rt: HostRuntime) -> Result<(), Fail> {
     Ok(())
 }
 
+/// Whether the text, cast to INTEGER, has the value.
+fn spells(alloc: Global, spelled: &str, value: Value) -> Result<bool, OutOfMemory> {
+    let of = letters(alloc, spelled)?;
+    let expr = cast(alloc, of, CastTo::Integer)?;
+    is_always(alloc, &expr, value)
+}
+
 #[test]
 fn casts_what_texts_spell(rt: HostRuntime) -> Result<(), Fail> {
-    for (spelled, value) in [
-        ("-12", Value::Int(-12)),
-        ("-9223372036854775808", Value::Int(-9223372036854775808)),
-        ("9223372036854775808", Value::Missing),
-        ("-", Value::Missing),
-    ] {
-        let expr = cast(rt.alloc(), letters(rt.alloc(), spelled)?, CastTo::Integer)?;
-        assert!(rt; is_always(rt.alloc(), &expr, value)?, "{spelled}");
-    }
+    assert!(rt; spells(rt.alloc(), "-12", Value::Int(-12))?);
+    assert!(rt; spells(rt.alloc(), "9223372036854775808", Value::Missing)?);
+    assert!(rt; spells(rt.alloc(), "-", Value::Missing)?);
+    Ok(())
+}
+
+#[test]
+fn casts_numbers_to_truth_values(rt: HostRuntime) -> Result<(), Fail> {
     let zero = cast(rt.alloc(), number(0), CastTo::Boolean)?;
     assert!(rt; is_always(rt.alloc(), &zero, Value::Bool(false))?);
     Ok(())
 }
 
+/// Whether `1 IN (NULL, second)` has the value.
+fn is_member(alloc: Global, second: i128, value: Value) -> Result<bool, OutOfMemory> {
+    let expr = member(alloc, number(1), Expr::Lit(Value::Null), number(second))?;
+    is_always(alloc, &expr, value)
+}
+
 #[test]
 fn asks_for_members(rt: HostRuntime) -> Result<(), Fail> {
-    let unknown = member(rt.alloc(), number(1), Expr::Lit(Value::Null), number(2))?;
-    assert!(rt; is_always(rt.alloc(), &unknown, Value::Null)?);
-    let among = member(rt.alloc(), number(1), Expr::Lit(Value::Null), number(1))?;
-    assert!(rt; is_always(rt.alloc(), &among, Value::Bool(true))?);
+    assert!(rt; is_member(rt.alloc(), 2, Value::Null)?);
+    assert!(rt; is_member(rt.alloc(), 1, Value::Bool(true))?);
     Ok(())
 }
 
@@ -230,26 +240,44 @@ fn takes_the_first_that_is_there(rt: HostRuntime) -> Result<(), Fail> {
     Ok(())
 }
 
+/// Whether the text matches so.
+fn is_matched(alloc: Global, how: How, of: &str, pattern: &str) -> Result<bool, OutOfMemory> {
+    let expr = matching(alloc, how, of, pattern)?;
+    is_always(alloc, &expr, Value::Bool(true))
+}
+
 #[test]
-fn matches_characters_and_bytes(rt: HostRuntime) -> Result<(), Fail> {
-    for (how, of, pattern, value) in [
-        (How::Like, "abc", "%b%", true),
-        (How::Like, "abc", "%b", false),
-        (How::Like, "aé", "a_", true),
-        (How::Like, "aé", "a__", false),
-        (How::ILike, "aé", "AÉ", false),
-        (How::ILike, "ab", "A_", true),
-        (How::Contains, "abc", "", true),
-        (How::Starts, "abc", "ab", true),
-        (How::Ends, "abc", "ab", false),
+fn matches_characters(rt: HostRuntime) -> Result<(), Fail> {
+    for (of, pattern, value) in [
+        ("abc", "%b%", true),
+        ("abc", "%b", false),
+        ("aé", "a_", true),
+        ("aé", "a__", false),
     ] {
-        let expr = matching(rt.alloc(), how, of, pattern)?;
-        assert!(rt;
-            is_always(rt.alloc(), &expr, Value::Bool(value))?,
-            "{of} {pattern}"
-        );
+        assert_eq!(rt; is_matched(rt.alloc(), How::Like, of, pattern)?, value);
     }
-    let length = call(rt.alloc(), Func::CharLength, letters(rt.alloc(), "aé")?)?;
+    Ok(())
+}
+
+#[test]
+fn matches_characters_of_any_case(rt: HostRuntime) -> Result<(), Fail> {
+    assert!(rt; !is_matched(rt.alloc(), How::ILike, "aé", "AÉ")?);
+    assert!(rt; is_matched(rt.alloc(), How::ILike, "ab", "A_")?);
+    Ok(())
+}
+
+#[test]
+fn matches_bytes(rt: HostRuntime) -> Result<(), Fail> {
+    assert!(rt; is_matched(rt.alloc(), How::Contains, "abc", "")?);
+    assert!(rt; is_matched(rt.alloc(), How::Starts, "abc", "ab")?);
+    assert!(rt; !is_matched(rt.alloc(), How::Ends, "abc", "ab")?);
+    Ok(())
+}
+
+#[test]
+fn counts_characters(rt: HostRuntime) -> Result<(), Fail> {
+    let of = letters(rt.alloc(), "aé")?;
+    let length = call(rt.alloc(), Func::CharLength, of)?;
     assert!(rt; is_always(rt.alloc(), &length, Value::Int(2))?);
     Ok(())
 }
