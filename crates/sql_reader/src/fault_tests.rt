@@ -57,18 +57,30 @@ fn takes_queries(rt: HostRuntime) {
 }
 
 #[test]
-fn keeps_the_limits(rt: HostRuntime) -> Result<(), Fail> {
+fn keeps_the_limit_on_bytes(rt: HostRuntime) -> Result<(), Fail> {
     let alloc = rt.alloc();
     // 16 bytes and so many spaces
     let longest = repeated(alloc, "SELECT a FROM t ", " ", 65_520, "")?;
     let too_long = repeated(alloc, "SELECT a FROM t ", " ", 65_521, "")?;
     assert_eq!(rt; fault_of(alloc, longest.as_str()), None);
     assert_eq!(rt; fault_of(alloc, too_long.as_str()), Some(SqlFault::TooLong));
+    Ok(())
+}
+
+#[test]
+fn keeps_the_limit_on_tokens(rt: HostRuntime) -> Result<(), Fail> {
+    let alloc = rt.alloc();
     // 6 tokens and so many others
     let most = repeated(alloc, "SELECT a FROM t WHERE ", "NOT ", 2_042, "b")?;
-    let too_many = repeated(alloc, "SELECT a FROM t WHERE ", "NOT ", 2_043, "b")?;
     assert_eq!(rt; fault_of(alloc, most.as_str()), None);
+    let too_many = repeated(alloc, "SELECT a FROM t WHERE ", "NOT ", 2_043, "b")?;
     assert_eq!(rt; fault_of(alloc, too_many.as_str()), Some(SqlFault::TooMany));
+    Ok(())
+}
+
+#[test]
+fn keeps_the_limit_on_nesting(rt: HostRuntime) -> Result<(), Fail> {
+    let alloc = rt.alloc();
     let opened = repeated(alloc, "SELECT ", "(", 64, "a")?;
     let deepest = repeated(alloc, opened.as_str(), ")", 64, " FROM t")?;
     assert_eq!(rt; fault_of(alloc, deepest.as_str()), None);
@@ -82,14 +94,38 @@ fn keeps_the_limits(rt: HostRuntime) -> Result<(), Fail> {
 }
 
 #[test]
-fn fits_the_stack(rt: HostRuntime) -> Result<(), Fail> {
+fn signs_fit_the_stack(rt: HostRuntime) -> Result<(), Fail> {
     let alloc = rt.alloc();
-    let signs = repeated(alloc, "SELECT ", "- ", 2_000, "a FROM t")?;
+    let signs = repeated(alloc, "SELECT a FROM t WHERE ", "- ", 2_042, "b")?;
     assert_eq!(rt; fault_of(alloc, signs.as_str()), None);
-    let sum = repeated(alloc, "SELECT a", " + a", 1_021, " FROM t")?;
+    Ok(())
+}
+
+#[test]
+fn a_sum_fits_the_stack(rt: HostRuntime) -> Result<(), Fail> {
+    let alloc = rt.alloc();
+    let sum = repeated(alloc, "SELECT a", " + a", 1_022, " FROM t")?;
     assert_eq!(rt; fault_of(alloc, sum.as_str()), None);
+    Ok(())
+}
+
+#[test]
+fn cases_fit_the_stack(rt: HostRuntime) -> Result<(), Fail> {
+    let alloc = rt.alloc();
     let cases = repeated(alloc, "SELECT ", "CASE WHEN a THEN ", 64, "1")?;
     let cases = repeated(alloc, cases.as_str(), " END", 64, " FROM t")?;
     assert_eq!(rt; fault_of(alloc, cases.as_str()), None);
+    Ok(())
+}
+
+#[test]
+fn a_mixture_fits_the_stack(rt: HostRuntime) -> Result<(), Fail> {
+    let alloc = rt.alloc();
+    // 64 times 15 tokens on the way in and 13 on the way out
+    let front = "NOT NOT NOT a OR a AND NOT - - - 1 + - (";
+    let opened = repeated(alloc, "SELECT ", front, 64, "a")?;
+    let back = ") * a + a + a = a AND a OR a";
+    let mixture = repeated(alloc, opened.as_str(), back, 64, " FROM t")?;
+    assert_eq!(rt; fault_of(alloc, mixture.as_str()), None);
     Ok(())
 }
