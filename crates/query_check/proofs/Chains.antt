@@ -46,7 +46,7 @@ halves n = elim (zero_or_one (n % 2) (omega arith)) [ inl e ↦ inl (e, omega (a
 pub in_arm : (xs : List (Ex × Ex)) (es : List Ex) (n : ℕ) (x : Ex × Ex) (v : Ex) → slice_get xs (n / 2) ≡ Some x → (n % 2 ≡ 0 → v ≡ x.0) → (n % 2 ≡ 1 → v ≡ x.1) → Some v ≡ slice_get (arm_operands (arms xs) ++ es) n
 in_arm xs es n x v h even odd =
     elim (halves n) [
-      inl e ↦ ap Some (even e.0) ∙ sym (test_at xs es n (n / 2) x h e.1)
+      | inl e ↦ ap Some (even e.0) ∙ sym (test_at xs es n (n / 2) x h e.1)
       | inr e ↦ ap Some (odd e.0) ∙ sym (value_at xs es n (n / 2) x h e.1)
     ]
 

@@ -91,8 +91,14 @@ pub length_places : (q : Query) → length (places q) ≡ length (output_exs q.o
 unfolding places
 length_places q =
     let order = map (λ k. order_ex q.outs k.0) q.order in
-    omega (arith, length_counted output (output_exs q.outs), length_counted group_key q.keys, length_counted order_key order, length-map q.order (λ k. order_ex q.outs k.0),
+    omega (
+      arith,
+      length_counted output (output_exs q.outs),
+      length_counted group_key q.keys,
+      length_counted order_key order,
+      length-map q.order (λ k. order_ex q.outs k.0),
       length-append (counted output (output_exs q.outs)) (alone where_test q.filter ++ (counted group_key q.keys ++ (alone having q.having ++ counted order_key order))),
       length-append (alone where_test q.filter) (counted group_key q.keys ++ (alone having q.having ++ counted order_key order)),
       length-append (counted group_key q.keys) (alone having q.having ++ counted order_key order),
-      length-append (alone having q.having) (counted order_key order))
+      length-append (alone having q.having) (counted order_key order),
+    )

@@ -23,7 +23,9 @@ fn copy_steps(alloc: Global, steps: &Steps) -> Result<Steps, OutOfMemory>
 {
     let mut all = Steps::new(alloc);
     for at in 0..steps.len() {
-        let Some(step) = steps.get(at) else { unreachable!() };
+        let Some(step) = steps.get(at) else {
+            unreachable!()
+        };
         all.push(copy_step(alloc, step)?)?;
     }
     Ok(all)

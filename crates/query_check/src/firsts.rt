@@ -36,11 +36,7 @@ pub(crate) fn first_place(rule: Rule, query: &Query, names: &Names) -> Option<Pl
 }
 
 /// The distinct aggregates, in the order in which they stand first.
-pub(crate) fn aggregates(
-    alloc: Global,
-    query: &Query,
-    names: &Names,
-) -> Result<Exprs, OutOfMemory>
+pub(crate) fn aggregates(alloc: Global, query: &Query, names: &Names) -> Result<Exprs, OutOfMemory>
     requires within { placed.IsWithin (query_view query.now) }
     requires names { names.now ≡ named.names (outs_view query.now.outputs) }
     ensures { IfOk result (λ es. es ≡ aggs.aggregates (query_view query.now)) }

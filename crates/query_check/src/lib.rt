@@ -14,8 +14,11 @@ mod places;
 mod verdict;
 mod walk;
 
-pub use verdict::{Checked, check};
 pub use copies::copy_expr;
 pub use equal::{is_among, same_expr};
 pub use fault::{CheckFault, Limit, Place};
 pub use names::Names;
+pub use verdict::{Checked, check};
+
+#[cfg(test)]
+mod tests;

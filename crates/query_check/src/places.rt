@@ -128,10 +128,7 @@ pub(crate) fn place_at<'a>(query: &'a Query, names: &Names, at: usize) -> (Place
 {
     let count = output_count(&query.outputs);
     if at < count {
-        (
-            Place::Output(number(at)),
-            some_output(&query.outputs, at),
-        )
+        (Place::Output(number(at)), some_output(&query.outputs, at))
     } else {
         where_place(query, names, at - count)
     }

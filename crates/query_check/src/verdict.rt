@@ -115,12 +115,7 @@ fn over_groups(query: &Query, names: &Names, grouped: bool) -> Option<Place>
 }
 
 /// The first fault of a query whose outputs and keys are within their limits.
-fn first_fault(
-    query: &Query,
-    names: &Names,
-    found: &Exprs,
-    grouped: bool,
-) -> Option<CheckFault>
+fn first_fault(query: &Query, names: &Names, found: &Exprs, grouped: bool) -> Option<CheckFault>
     requires within { placed.IsWithin (query_view query.now) }
     requires names { names.now ≡ named.names (outs_view query.now.outputs) }
     requires found { found.now ≡ aggs.aggregates (query_view query.now) }
