@@ -57,7 +57,7 @@ alone at (Some e) = (at, e) ∷ []
 unfoldable pub places : Query → List (Place × Ex)
 places q =
     counted output (output_exs q.outs)
-      ++ (alone where_test q.filter
-        ++ (counted group_key q.keys
-          ++ (alone having q.having
-            ++ counted order_key (map (λ k. order_ex q.outs k.0) q.order))))
+    ++ (alone where_test q.filter
+    ++ (counted group_key q.keys
+    ++ (alone having q.having
+    ++ counted order_key (map (λ k. order_ex q.outs k.0) q.order))))

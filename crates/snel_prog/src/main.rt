@@ -3,6 +3,8 @@
 
 mod accept;
 mod ask;
+#[cfg(test)]
+mod form_tests;
 mod load;
 mod query;
 mod query_fault;

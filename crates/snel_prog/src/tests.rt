@@ -205,7 +205,11 @@ fn names_of_sources_are_free(rt: HostRuntime) -> Result<(), Fail> {
     )?;
     ends(
         &rt,
-        &["query", "SELECT * FROM \"any \"\"thing\" AS t OFFSET 0", "rows"],
+        &[
+            "query",
+            "SELECT * FROM \"any \"\"thing\" AS t OFFSET 0",
+            "rows",
+        ],
         &[],
         &[],
         (0, LINES, ""),
