@@ -1,5 +1,5 @@
 -- How a call ends once the bytes of the block are there.
-use Rattle.std.proofs.Common.{◌≡◌, ℕ, List, [], ◌∷◌, length, Option, Some, None, Result, Ok, Err, refl, ap, sym, subst, ◌∙◌, arith, true, false}
+use Rattle.std.proofs.Common.{◌≡◌, ℕ, List, length, Option, Some, None, Result, Ok, Err, refl, sym, subst, arith}
 use Rattle.std.specs.Prelude.{IsSomeAnd, IsErrOf}
 use Rattle.std.specs.Io.KnownBytes.{Keeps}
 use Rattle.snel_device.specs.Contents.{Contents}
@@ -11,8 +11,8 @@ use Rattle.file_meaning.specs.Files.{Entry, bytes_at}
 use Rattle.time_index.specs.Answers.{Knows}
 use Rattle.snel_prog.specs.declared.refusal.Refusal.{Refusal}
 use Rattle.snel_prog.specs.declared.refusal.Refusal.TheVariants.{Words, Query, Absent, NotAFile, Damaged, ReadFault, WriteFault, OutOfMemory}
-use Rattle.snel_prog.specs.Words.{Ask, nothing, query}
-use Rattle.snel_prog.specs.Queries.{IsAccepted, Refuses, Accepts}
+use Rattle.snel_prog.specs.Words.{query}
+use Rattle.snel_prog.specs.Queries.{IsAccepted}
 use Rattle.snel_prog.proofs.Built.{not_both}
 use Rattle.snel_prog.specs.Headline.{Answers}
 use Rattle.snel_prog.specs.Written.{Writes, rows_text}
@@ -22,7 +22,7 @@ use Rattle.snel_prog.specs.Causes.{FindsInBlock, FindsInFile, FindsInFiles, Find
 use Rattle.snel_prog.specs.Refusals.{HasItsCause, IsQuiet, IsTextRefusal}
 use Rattle.snel_prog.specs.Loading.{HasBlock}
 use Rattle.snel_prog.proofs.Sink.{Keeps-same}
-use Rattle.snel_prog.proofs.Verdicts.{answers, refused, memory_allowed}
+use Rattle.snel_prog.proofs.Verdicts.{answers, memory_allowed}
 use Rattle.snel_prog.proofs.OneBlock.{knows, one_entry}
 
 -- a damaged block may be said to be one

@@ -1,17 +1,15 @@
 -- What queries of the form that is answered make of rows, and that a text isn't both accepted and refused.
-use Rattle.std.proofs.Common.{◌≡◌, ℕ, zero, suc, Bool, true, false, ◌&&◌, eqb, List, [], ◌∷◌, map, length, Option, Some, None, refl, ap, sym, subst, ◌∙◌, arith}
+use Rattle.std.proofs.Common.{◌≡◌, ℕ, Bool, true, false, ◌&&◌, List, [], ◌∷◌, map, length, Option, Some, None, refl, ap, subst, ◌∙◌, arith}
 use Rattle.std.proofs.lemmas.Bool.Decides.{nat_tests}
 use Rattle.std.specs.Prelude.{is_none, ◌==◌}
 use Rattle.value_meaning.specs.Val.{Val}
-use Rattle.query_meaning.specs.Tree.{Ex, Outs, star, named, Query}
+use Rattle.query_meaning.specs.Tree.{Outs, star, named, Query}
 use Rattle.query_meaning.specs.Faults.{ComesTo, is_query}
 use Rattle.query_meaning.specs.Faults as text
 use Rattle.query_meaning.proofs.Verdicts.{verdict-one}
-use Rattle.check_meaning.specs.Fault.{Fault}
-use Rattle.check_meaning.specs.Verdict.{fault_of}
-use Rattle.answer_meaning.specs.Made.{Made, made_whole, made_of_all, pairs_of}
+use Rattle.answer_meaning.specs.Made.{Made, made_whole, made_of_all}
 use Rattle.made_meaning.specs.MadeRows.{made, made_row}
-use Rattle.snel_prog.specs.Queries.{Refused, unread, unchecked, not_built, is_star, is_built, Accepts, IsAccepted, Refuses, by_reading, by_checking, by_form, IsTextFault}
+use Rattle.snel_prog.specs.Queries.{Refused, unread, unchecked, not_built, is_star, is_built, IsAccepted, Refuses, by_reading, by_checking, by_form, IsTextFault}
 
 both : (a b : Bool) → (a && b) ≡ true → (a ≡ true) × (b ≡ true)
 both true true h = (refl, refl)

@@ -1,23 +1,21 @@
 -- The bytes that a query command writes are those of an answer.
-use Rattle.std.proofs.Common.{◌≡◌, ◌≢◌, ℕ, List, [], ◌∷◌, ◌++◌, length, Bool, true, false, eqb, cond, Option, Some, None, refl, ap, sym, subst, ◌∙◌, arith}
+use Rattle.std.proofs.Common.{◌≡◌, ◌≢◌, ℕ, List, [], ◌∷◌, ◌++◌, length, Bool, true, false, eqb, cond, Option, Some, None, refl, sym, subst, ◌∙◌, arith}
 use Rattle.std.proofs.lemmas.Bool.Decides.{nat_tests}
 use Rattle.std.proofs.lemmas.List.{append-nil}
-use Rattle.std.specs.Prelude.{IsTrue}
 use Rattle.std.specs.Io.KnownBytes.{Keeps, Appends}
 use Rattle.snel_device.specs.Contents.{Contents}
 use Rattle.value_meaning.specs.Val.{Val}
 use Rattle.block_meaning.specs.Tables.{Table}
-use Rattle.block_meaning.specs.Blocks.{IsBlock, IsDamaged, block_in}
+use Rattle.block_meaning.specs.Blocks.{IsBlock, block_in}
 use Rattle.block_meaning.proofs.BlockReading.{blocks_read, damaged_none, damaged_count}
 use Rattle.file_meaning.specs.Files.{Entry, IsFile, bytes_at, counted_rows, rows_at, rows_of}
-use Rattle.answer_meaning.specs.Made.{pairs_of}
 use Rattle.query_meaning.specs.Tree.{Query}
 use Rattle.snel_prog.specs.Words.{Ask, query}
-use Rattle.snel_prog.specs.Queries.{Accepts, IsAccepted}
+use Rattle.snel_prog.specs.Queries.{Accepts}
 use Rattle.snel_prog.specs.Headline.{AddsAnswer, Headline}
 use Rattle.snel_prog.specs.Written.{rows_text}
 use Rattle.snel_prog.specs.Verdicts.{Verdict, no_block_file, bad_block, rows, EndsAs}
-use Rattle.snel_prog.specs.Causes.{HasNoBlock, HasBadBlock, FindsInFile, Finds, Ends}
+use Rattle.snel_prog.specs.Causes.{HasNoBlock, HasBadBlock, FindsInFile, Ends}
 use Rattle.snel_prog.proofs.Built.{built_is_whole}
 use Rattle.snel_prog.proofs.Verdicts.{answer_of}
 use Rattle.snel_prog.proofs.OneBlock.{field_is_empty, one_is_there}

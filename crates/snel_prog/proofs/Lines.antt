@@ -1,5 +1,5 @@
 -- The line of a refused query.
-use Rattle.std.proofs.Common.{◌≡◌, ℕ, List, Option, Result, Err, ap, sym, arith}
+use Rattle.std.proofs.Common.{◌≡◌, ℕ, List, Option, Err, ap, arith}
 use Rattle.snel_device.specs.Contents.{Contents}
 use Rattle.snel_prog.specs.declared.refusal.Refusal.{Refusal}
 use Rattle.snel_prog.specs.declared.refusal.Refusal.TheVariants.{Words, Query, Absent, NotAFile, Damaged, ReadFault, WriteFault, OutOfMemory}

@@ -1,15 +1,15 @@
 -- A file of one block with no indexed field.
-use Rattle.std.proofs.Common.{◌≡◌, ℕ, zero, suc, ◌+◌, ◌≤◌, List, [], ◌∷◌, ◌++◌, length, take, drop, Option, Some, None, refl, ap, sym, subst, ◌∙◌, arith, length-append}
+use Rattle.std.proofs.Common.{◌≡◌, ℕ, ◌+◌, ◌≤◌, List, [], ◌∷◌, ◌++◌, length, take, drop, Option, Some, None, refl, ap, sym, subst, ◌∙◌, arith, length-append}
 use Rattle.std.proofs.lemmas.List.{take_at}
-use Rattle.std.specs.Prelude.{slice_get, IsSomeAnd, IsSome}
+use Rattle.std.specs.Prelude.{slice_get, IsSomeAnd}
 use Rattle.std.specs.Option.{ForSome}
 use Rattle.snel_device.specs.Contents.{Contents, IsWithin, HasAt}
-use Rattle.file_meaning.specs.Files.{Entry, IsFile, bytes_at, index_bytes, tail_bytes}
+use Rattle.file_meaning.specs.Files.{Entry, IsFile, index_bytes, tail_bytes}
 use Rattle.file_meaning.proofs.Believed.{inside}
 use Rattle.file_meaning.proofs.Spelled.{file_reads}
 use Rattle.time_index.specs.Answers.{Knows, IsNoFile}
 use Rattle.snel_prog.specs.Verdicts.{Verdict, no_command, no_query, no_such_file, no_block_file, bad_block, rows, unknown, Allows}
-use Rattle.snel_prog.specs.Causes.{FindsInFile, FindsInFiles, HasNoBlock, HasBadBlock}
+use Rattle.snel_prog.specs.Causes.{FindsInFile, HasNoBlock}
 use Rattle.snel_prog.specs.Loading.{HasOneBlock, HasBlock, EachAllows}
 
 abbrev Index : Type 0

@@ -1,5 +1,5 @@
 -- What a sink holds after pieces of a text.
-use Rattle.std.proofs.Common.{◌≡◌, ℕ, zero, suc, ◌≤◌, List, [], ◌∷◌, ◌++◌, length, take, drop, map, Option, Some, None, refl, ap, ◌∙◌, sym, subst, arith, append_assoc, take-append-drop}
+use Rattle.std.proofs.Common.{◌≡◌, ℕ, zero, suc, ◌≤◌, List, [], ◌∷◌, ◌++◌, length, take, drop, Option, Some, None, refl, ap, ◌∙◌, sym, arith, append_assoc, take-append-drop}
 use Rattle.std.specs.Prelude.{slice_get, OnOk, Result, Ok, Err}
 use Rattle.snel_device.specs.declared.outside.Failed.{Failed}
 use Rattle.std.specs.Io.KnownBytes.{Appends, Keeps}

@@ -7,13 +7,13 @@ use Rattle.snel_device.specs.Contents.{Contents}
 use Rattle.snel_prog.specs.declared.refusal.Refusal.{Refusal}
 use Rattle.snel_prog.specs.declared.refusal.Refusal.TheVariants.{Words, Query, Absent, NotAFile, Damaged, ReadFault, WriteFault, OutOfMemory}
 use Rattle.snel_prog.specs.Words.{Ask, nothing, query}
-use Rattle.snel_prog.specs.Queries.{Refused, Refuses, IsRefused, IsAccepted}
+use Rattle.snel_prog.specs.Queries.{IsRefused, IsAccepted}
 use Rattle.snel_prog.specs.QueryFaults.{refused_view}
 use Rattle.snel_prog.specs.declared.query_fault.QueryFault.{QueryFault}
 use Rattle.snel_prog.specs.declared.query_fault.QueryFault.TheVariants.{NotBuilt}
 use Rattle.snel_prog.specs.Statuses.{status_of, status_after}
-use Rattle.snel_prog.specs.Verdicts.{Verdict, no_command, no_query, no_such_file, no_block_file, bad_block, rows, unknown, Allows, EndsAs, Exactly, ExactlyOnceRead}
-use Rattle.snel_prog.specs.Causes.{HasNoBlock, HasBadBlock, FindsInFile, Finds, Ends, OfFile}
+use Rattle.snel_prog.specs.Verdicts.{no_command, no_query, no_such_file, no_block_file, bad_block, Exactly, ExactlyOnceRead}
+use Rattle.snel_prog.specs.Causes.{HasNoBlock, HasBadBlock, FindsInFile, Ends, OfFile}
 use Rattle.snel_prog.specs.Refusals.{Says, HasItsCause}
 
 -- the refusal of a status, of a query for this reason

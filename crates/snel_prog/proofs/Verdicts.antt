@@ -1,15 +1,12 @@
 -- How a call may end on each verdict.
-use Rattle.std.proofs.Common.{◌≡◌, ℕ, suc, Bool, List, [], ◌∷◌, map, Option, Some, None, Result, Ok, Err, refl, ap, sym, subst, ◌∙◌, arith, drop}
+use Rattle.std.proofs.Common.{◌≡◌, ℕ, Bool, List, [], ◌∷◌, map, Option, None, refl, ap, sym, subst, arith}
 use Rattle.std.proofs.lemmas.List.Sorted.{IsPermutation-refl}
-use Rattle.std.specs.Io.KnownBytes.{Appends, Keeps}
-use Rattle.std.specs.Prelude.{codes}
 use Rattle.value_meaning.specs.Val.{Val}
-use Rattle.answer_meaning.specs.Made.{Output, Made, made_whole, made_of_all, pairs_of}
+use Rattle.answer_meaning.specs.Made.{Output, Made, made_of_all, pairs_of}
 use Rattle.answer_meaning.specs.Answers.{IsAnswer}
 use Rattle.query_meaning.specs.Tree.{Ex, Query}
 use Rattle.made_meaning.specs.MadeRows.{made}
 use Rattle.snel_prog.specs.Headline.{falling, AddsAnswer, Answers}
-use Rattle.snel_prog.specs.Queries.{Accepts}
 use Rattle.snel_prog.proofs.Built.{IsWhole, built_is_whole, made_whole_rows}
 use Rattle.snel_prog.specs.Written.{Writes, rows_text}
 use Rattle.snel_prog.specs.Verdicts.{Verdict, no_command, no_query, no_such_file, no_block_file, bad_block, rows, unknown, Allows, Wrote, EndsAs}

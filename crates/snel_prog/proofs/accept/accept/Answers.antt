@@ -7,6 +7,3 @@ returns-in-Err-clause-refused c = c.unread.ensures c.args.sql.now c.in-Err.ensur
 
 pub returns-in-Ok-2-clause-refused : goal.returns-in-Ok-2-clause-refused
 returns-in-Ok-2-clause-refused c = by_form c.in-Ok.ensures.exact c.in-Ok-check.ensures.0 (sym c.is_built-built.ensures ∙ c.if-built.false)
-
-pub returns-in-Err-check-clause-refused : goal.returns-in-Err-check-clause-refused
-returns-in-Err-check-clause-refused c = c.unchecked.ensures c.args.sql.now _ c.in-Ok.ensures.exact c.in-Err-check.ensures

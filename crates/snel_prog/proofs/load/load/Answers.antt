@@ -1,4 +1,4 @@
-use Rattle.std.proofs.Common.{◌≡◌, ℕ, List, length, ap, sym, subst, ◌∙◌, arith, Option, refl, drop}
+use Rattle.std.proofs.Common.{◌≡◌, ℕ, List, length, sym, subst, ◌∙◌, Option, refl, drop}
 use Rattle.snel_device.specs.Contents.{Contents}
 use Rattle.file_meaning.specs.Files.{Entry}
 use Rattle.time_index.specs.Answers.{Knows}

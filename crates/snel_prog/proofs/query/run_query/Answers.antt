@@ -1,5 +1,5 @@
-use Rattle.std.proofs.Common.{◌≡◌, Err, true, sym, ◌∙◌}
-use Rattle.snel_prog.specs.Verdicts.{Verdict, EndsAs}
+use Rattle.std.proofs.Common.{Err}
+use Rattle.snel_prog.specs.Verdicts.{EndsAs}
 use Rattle.snel_prog.specs.Statuses.{status_of, status_after}
 use Rattle.snel_prog.proofs.Verdicts.{refused}
 use Rattle.snel_prog.proofs.BlockEnds.{not_zero, quiet_same, finds_file, in_files, block_cause, text_allowed, text_cause}

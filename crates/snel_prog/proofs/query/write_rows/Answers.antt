@@ -1,4 +1,4 @@
-use Rattle.std.proofs.Common.{◌≡◌, List, ◌++◌, ℕ, suc, ◌∙◌, sym, subst, ap, take, arith, add-one, refl}
+use Rattle.std.proofs.Common.{List, ◌++◌, ℕ, ◌∙◌, sym, subst, ap, take, arith, add-one, refl}
 use Rattle.std.specs.Io.KnownBytes.{Appends}
 use Rattle.block_meaning.specs.Tables.{Table}
 use Rattle.answer_meaning.specs.Made.{pairs_of}

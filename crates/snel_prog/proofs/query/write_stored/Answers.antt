@@ -1,4 +1,4 @@
-use Rattle.std.proofs.Common.{◌≡◌, ℕ, List, subst, arith, refl}
+use Rattle.std.proofs.Common.{ℕ, List, subst, arith}
 use Rattle.block_meaning.specs.Blocks.{IsBlock, IsDamaged}
 use Rattle.snel_prog.proofs.Sink.{Keeps-same}
 use Rattle.snel_prog.proofs.Verdicts.{refused, memory_allowed}

@@ -1,4 +1,4 @@
-use Rattle.std.proofs.Common.{◌≡◌, subst, arith, refl}
+use Rattle.std.proofs.Common.{subst}
 use Rattle.snel_prog.specs.Words.{Ask}
 use Rattle.snel_prog.specs.Statuses.{status_after}
 use Rattle.snel_prog.specs.Causes.{Ends}
