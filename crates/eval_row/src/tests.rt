@@ -141,6 +141,31 @@ fn tells_null_and_missing_apart(rt: HostRuntime) -> Result<(), Fail> {
     Ok(())
 }
 
+/// `a IS NULL OR a IS MISSING`
+fn lacks(alloc: Global) -> Result<Expr, OutOfMemory> {
+    let unknown = is(alloc, field(alloc, "a")?, IsWhat::Null)?;
+    let absent = is(alloc, field(alloc, "a")?, IsWhat::Missing)?;
+    binary(alloc, BinOp::Or, unknown, absent)
+}
+
+#[test]
+fn takes_null_and_missing_together(rt: HostRuntime) -> Result<(), Fail> {
+    let rows = rows(rt.alloc())?;
+    let expr = lacks(rt.alloc())?;
+    let values = [Value::Bool(false), Value::Bool(true), Value::Bool(true)];
+    assert!(rt; gives(rt.alloc(), &expr, rows.as_slice(), &values)?);
+    Ok(())
+}
+
+#[test]
+fn casts_fields(rt: HostRuntime) -> Result<(), Fail> {
+    let rows = rows(rt.alloc())?;
+    let expr = cast(rt.alloc(), field(rt.alloc(), "b")?, CastTo::Integer)?;
+    let values = [Value::Missing, Value::Missing, Value::Int(7)];
+    assert!(rt; gives(rt.alloc(), &expr, rows.as_slice(), &values)?);
+    Ok(())
+}
+
 #[test]
 fn adds_to_numbers_alone(rt: HostRuntime) -> Result<(), Fail> {
     let rows = rows(rt.alloc())?;
