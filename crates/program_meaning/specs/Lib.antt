@@ -1,0 +1,6 @@
+pub mod Instructions
+pub mod Programs
+pub mod Registers
+pub mod Jobs
+pub mod Simulation
+pub mod Laws
