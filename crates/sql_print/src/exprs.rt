@@ -1,4 +1,4 @@
-ghost use Rattle.std.specs.Prelude.{◌≡◌, ◌×◌, ◌++◌, codes, OnOk};
+ghost use Rattle.std.specs.Prelude.{◌≡◌, ◌++◌, codes, OnOk};
 ghost use Rattle.query_meaning.specs.Tree as tree;
 ghost use Rattle.query_meaning.specs.Words.{function_text};
 ghost use Rattle.query_meaning.specs.WellFormed.{IsFormed, AreFormed, ArmsAreFormed};

@@ -47,7 +47,7 @@ fn put_items(text: &mut Bytes, row: &str, items: &OutItems) -> Result<(), OutOfM
 }
 
 /// Adds `*` or the outputs.
-#[tactic(auto, using(print_meaning::proofs::PrintedLists::outs_are), unfolding(print_meaning::specs::Texts::outs_text))]
+#[tactic(auto, using(print_meaning::proofs::PrintedLists::outs_are), unfolding(print_meaning::specs::Texts::outs_text, print_meaning::specs::Pieces::spelling))]
 pub(crate) fn put_outputs(text: &mut Bytes, row: &str, outputs: &Outputs) -> Result<(), OutOfMemory>
     requires { AreOutputs (outs_view outputs.now) }
     ensures { OnOk result (text.new ≡ text.old ++ texts.outs_text row.now (outs_view outputs.now)) }

@@ -22,7 +22,7 @@ fn put_moment(text: &mut Bytes, micros: i64) -> Result<(), OutOfMemory>
 
 /// Adds the literal: NULL, MISSING, TRUE, FALSE, decimal digits, a string or a time between backticks. A literal of a
 /// query is no list, no struct and no negative number. For want of memory some of it may stand behind the bytes.
-#[tactic(auto, using(crate::proofs::Literals::int_text, crate::proofs::Literals::moment_text, crate::proofs::Literals::string_text), unfolding(print_meaning::specs::Texts::literal_text))]
+#[tactic(auto, using(crate::proofs::LiteralTexts::int_text, crate::proofs::LiteralTexts::moment_text, crate::proofs::LiteralTexts::string_text), unfolding(print_meaning::specs::Texts::literal_text, print_meaning::specs::Pieces::spelling))]
 pub fn put_literal(text: &mut Bytes, value: &Value) -> Result<(), OutOfMemory>
     requires { IsLiteral (view value.now) }
     ensures { OnOk result (text.new ≡ text.old ++ literal_text (view value.now)) }
