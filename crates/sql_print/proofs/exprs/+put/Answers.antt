@@ -38,8 +38,7 @@ put_bin-returns t c =
 pub put_exprs-put_listed-requires : goal.put_exprs-put_listed-requires
 put_exprs-put_listed-requires t c =
     let smaller = expr_smaller c.args.list.now c.loop-at.at (view c.expr_at.result.now) c.expr_at.ensures in
-    let h = c.requires in
-    ?
+    (omega (arith, smaller, c.requires.1.0), expr_formed c.args.list.now c.loop-at.at (view c.expr_at.result.now) c.requires.1.1 c.expr_at.ensures)
 
 pub put_exprs-loop-at-preserved : goal.put_exprs-loop-at-preserved
 put_exprs-loop-at-preserved t c =
@@ -53,8 +52,7 @@ put_exprs-returns t c =
 pub put_arms-put_arm-requires : goal.put_arms-put_arm-requires
 put_arms-put_arm-requires t c =
     let smaller = arm_smaller c.args.list.now c.loop-at.at (arm_view c.arm_at.result.now) c.arm_at.ensures in
-    let h = c.requires.1 in
-    ?
+    (omega (arith, smaller, c.requires.1.0), arm_formed c.args.list.now c.loop-at.at (arm_view c.arm_at.result.now) c.requires.1.1 c.arm_at.ensures)
 
 pub put_arms-loop-at-preserved : goal.put_arms-loop-at-preserved
 put_arms-loop-at-preserved t c =
