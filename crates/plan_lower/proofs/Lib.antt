@@ -1,0 +1,3 @@
+pub mod Items
+pub mod Emitting
+pub mod Outputs
