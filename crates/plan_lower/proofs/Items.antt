@@ -31,11 +31,20 @@ module _ {A : Type 0} where
   whole (x ∷ xs) zero h = absurd (omega (arith, h))
   whole (x ∷ xs) (suc k) h = ap (λ l. x ∷ l) (whole xs k (omega (arith, h)))
 
+  pub all_nil : (P : A → Type 0) → All P []
+  all_nil P k d h = omega (arith, h)
+
+  pub all_first : (P : A → Type 0) (x : A) (xs : List A) → All P (x ∷ xs) → P x
+  all_first P x xs a = a 0 x (omega arith)
+
+  pub all_rest : (P : A → Type 0) (x : A) (xs : List A) → All P (x ∷ xs) → All P xs
+  all_rest P x xs a k d h = a (suc k) d (omega (arith, h))
+
   -- what holds of all items holds of the one at a place
   pub all_at : (P : A → Type 0) (xs : List A) (k : ℕ) (x : A) → slice_get xs k ≡ Some x → All P xs → P x
   all_at P [] k x h a = cc
-  all_at P (y ∷ xs) zero x h a = subst P (some_is y x h) a.0
-  all_at P (y ∷ xs) (suc k) x h a = all_at P xs k x h a.1
+  all_at P (y ∷ xs) zero x h a = subst P (some_is y x h) (all_first P y xs a)
+  all_at P (y ∷ xs) (suc k) x h a = all_at P xs k x h (all_rest P y xs a)
 
   pub some_below : (xs : List A) (k : ℕ) → k < length xs → slice_get xs k ≡ None → ⊥
   some_below [] k h e = omega arith

@@ -1,3 +1,4 @@
 pub mod Items
 pub mod Emitting
 pub mod Outputs
+pub mod PlainQueries
