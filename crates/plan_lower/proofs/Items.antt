@@ -32,7 +32,7 @@ module _ {A : Type 0} where
   whole (x ∷ xs) (suc k) h = ap (λ l. x ∷ l) (whole xs k (omega (arith, h)))
 
   pub all_nil : (P : A → Type 0) → All P []
-  all_nil P k d h = omega (arith, h)
+  all_nil P k d h = absurd (omega (arith, h))
 
   pub all_first : (P : A → Type 0) (x : A) (xs : List A) → All P (x ∷ xs) → P x
   all_first P x xs a = a 0 x (omega arith)

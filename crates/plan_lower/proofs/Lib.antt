@@ -2,3 +2,4 @@ pub mod Items
 pub mod Emitting
 pub mod Outputs
 pub mod PlainQueries
+pub mod Simulating

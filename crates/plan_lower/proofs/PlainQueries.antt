@@ -1,8 +1,9 @@
 -- The queries that are lowered have no groups, and each literal of theirs is a constant.
 use Rattle.std.proofs.Common.{◌≡◌, ℕ, ◌+◌, Bool, true, false, ◌&&◌, ◌||◌, not, List, [], ◌∷◌, ◌++◌, map, length, All, Option, Some, None, IfSome, refl, ap, sym, ◌∙◌, arith}
+use Rattle.std.proofs.lemmas.Bool.{le-leb}
 use Rattle.std.proofs.lemmas.Bool.Decides.{nat_tests}
 use Rattle.std.proofs.lemmas.List.Folds.{list_any-append}
-use Rattle.std.specs.Prelude.{is_none, is_some, ◌==◌, nat_lt, pos, negsuc}
+use Rattle.std.specs.Prelude.{is_none, is_some, ◌==◌, nat_lt, ℤ, pos, negsuc, int_le, ◌<◌, ◌^◌}
 use Rattle.std.specs.List.{list_all, list_any, enumerate_from}
 use Rattle.value_meaning.specs.Val.{Val, missing, null, truth, int, time, text, list, struct}
 use Rattle.query_meaning.specs.BinOp.{BinOp}
@@ -133,11 +134,11 @@ places_ask_none q h =
 
 pub is_ungrouped : (q : Query) → is_lowered q ≡ true → is_grouped q ≡ false
 unfolding is_grouped
-is_ungrouped q h = let plain = lowered_is_plain q h in rw (plain.keys, plain.having, places_ask_none q plain) refl
+is_ungrouped q h = let plain = lowered_is_plain q h in rw (places_ask_none q plain, plain.keys, plain.having) refl
 
 -- a literal is a constant
 number_fits : (n : ℤ) → IsNumber n → fits n ≡ true
-number_fits (pos n) h = ?
+number_fits (pos n) h = le-leb n 9_223_372_036_854_775_807 (omega (arith, h))
 number_fits (negsuc n) h = absurd h
 
 pub is_constant : (v : Val) → IsLiteral v → IsConstant v
