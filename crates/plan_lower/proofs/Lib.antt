@@ -1,5 +1,5 @@
 pub mod Items
-pub mod Emitting
-pub mod Outputs
+pub mod EmittedValues
+pub mod EmittedOutputs
 pub mod PlainQueries
-pub mod Simulating
+pub mod PlainJobs

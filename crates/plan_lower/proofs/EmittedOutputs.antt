@@ -12,7 +12,7 @@ use Rattle.program_meaning.specs.Registers.{Lane, after, mask_at, value_at, with
 use Rattle.program_meaning.proofs.Persist.{extends_itself, extends_further, mask_stays, value_stays}
 use Rattle.plan_lower.specs.Emitting.{Emits, EmitsAll}
 use Rattle.plan_lower.proofs.Items.{all_nil, all_first, all_rest}
-use Rattle.plan_lower.proofs.Emitting.{ap2, value_known}
+use Rattle.plan_lower.proofs.EmittedValues.{ap2, value_known}
 
 pub emits_none : (old : List Instr) (m : ℕ) → EmitsAll old old [] m []
 emits_none old m = record { extends = extends_itself old; made = all_nil (λ (r : ℕ). r < value_count old); values = λ l. refl }

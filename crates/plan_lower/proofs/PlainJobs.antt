@@ -17,8 +17,9 @@ use Rattle.program_meaning.specs.Simulation.{is_star, is_kept, passes, if_ungrou
 use Rattle.program_meaning.proofs.Persist.{extends_further, mask_stays}
 use Rattle.plan_lower.specs.Forms.{is_lowered}
 use Rattle.plan_lower.specs.Emitting.{EmitsAll, Keeps}
+use Rattle.plan_lower.specs.Ends.{names_of, registers_of, plain_ends}
 use Rattle.plan_lower.proofs.Items.{all_nil}
-use Rattle.plan_lower.proofs.Emitting.{mask_known}
+use Rattle.plan_lower.proofs.EmittedValues.{mask_known}
 use Rattle.plan_lower.proofs.PlainQueries.{IsPlain, lowered_is_plain, is_ungrouped}
 
 -- the row of a place in a chunk
@@ -43,13 +44,6 @@ mapped_twice f g (x ∷ xs) = ap (λ l. g (f x) ∷ l) (mapped_twice f g xs)
 
 all_within : (b : Bool) (es : List Ex) (row : Val) → b ≡ true → map (λ e. within b (eval e row)) es ≡ map (λ e. eval e row) es
 all_within b es row h = ap (λ c. map (λ e. within c (eval e row)) es) h
-
--- the ends of a job that isn't grouped and has no sort keys
-abbrev pub plain_ends : ℕ → Bool → List (List ℕ × ℕ) → Ends
-plain_ends keep whole outs = record { keep = keep; star = whole; grouped = false; outs = outs; sorts = []; groups = []; aggs = [] }
-
-abbrev pub registers_of : List (List ℕ × ℕ) → List ℕ
-registers_of outs = map (λ (o : List ℕ × ℕ). o.1) outs
 
 -- the program of all lanes, then of WHERE, then of the outputs
 module _ (q : Query) (lowered : is_lowered q ≡ true) (outs : List (List ℕ × ℕ)) (p1 p2 p3 : List Instr) (keep : ℕ) (is_all : p1 ≡ all ∷ []) (filtered : Keeps p1 p2 q.filter 0 keep) (emitted : EmitsAll p2 p3 (output_exs q.outs) keep (registers_of outs)) where
