@@ -5,10 +5,17 @@
 //! memory is taken when it is made, and running takes none.
 #![tactic(auto)]
 
+mod bind;
 mod ends;
 mod frame;
 mod instr;
 mod job;
+mod literal;
+mod make;
+mod operands;
+mod path;
+mod rows;
+mod run;
 mod tally;
 
 pub use ends::{EndAgg, EndAggs, EndOut, EndOuts, Ends, Registers};
