@@ -1,0 +1,4 @@
+pub mod Forms
+pub mod Emitting
+pub mod Listing
+pub mod Ends
