@@ -1,2 +1,3 @@
 pub mod Simulated
 pub mod Sink
+pub mod TreeCells

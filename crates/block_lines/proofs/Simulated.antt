@@ -1,5 +1,5 @@
 -- What a job that simulates a query makes of rows is what the query makes of them.
-use Rattle.std.proofs.Common.{◌≡◌, ℕ, zero, suc, ◌<◌, Bool, true, false, cond, List, [], ◌∷◌, map, take, drop, Option, None, Some, refl, sym, ◌∙◌, ap, arith}
+use Rattle.std.proofs.Common.{◌≡◌, ℕ, zero, suc, ◌+◌, ◌<◌, Bool, true, false, cond, List, [], ◌∷◌, map, take, drop, Option, None, Some, refl, sym, ◌∙◌, ap, arith}
 use Rattle.std.specs.Prelude.{slice_get, length, if◌then◌else◌}
 use Rattle.std.specs.List.{filter, enumerate_from}
 use Rattle.value_meaning.specs.Val.{Val}
@@ -28,7 +28,7 @@ passed_is None [] = refl
 passed_is None (r ∷ rows) = ap (λ l. r ∷ l) (passed_is None rows)
 
 -- a lane of a chunk of the one row
-lanes_of : Job → Val → ℕ → State
+abbrev lanes_of : Job → Val → ℕ → State
 lanes_of job row i = after (lane_of (slice_get (row ∷ []) i)) job.program
 
 module _ (job : Job) (q : Query) (simulates : Simulates job q) (row : Val) where
@@ -71,24 +71,26 @@ module _ (job : Job) (q : Query) (simulates : Simulates job q) (single : is_grou
       by_outs q.outs job.ends.star job.ends.outs (registers_on job row) row simulates.star (simulates.names ∙ ungrouped q (names q.outs) single)
       ((shows_is job q simulates row k).outs ∙ ap (λ es. map (λ (e : Ex). eval e row) es) (ungrouped q (output_exs q.outs) single))
 
+  by_test : (r : Val) (rows : List Val) (b : Bool) → keeps job r ≡ b → job_outputs job rows ≡ map (output_of q.outs) (filter (is_kept q.filter) rows)
+      → job_outputs job (r ∷ rows) ≡ map (output_of q.outs) (filter (is_kept q.filter) (r ∷ rows))
+  by_test r rows true k rest =
+      let k2 : is_kept q.filter r ≡ true = sym (keeps_is job q simulates r) ∙ k in
+      rw (k, k2) (λ i. output_is r k i ∷ rest i)
+  by_test r rows false k rest =
+      let k2 : is_kept q.filter r ≡ false = sym (keeps_is job q simulates r) ∙ k in
+      rw (k, k2) rest
+
   outputs_of_kept : (rows : List Val) → job_outputs job rows ≡ map (output_of q.outs) (filter (is_kept q.filter) rows)
   outputs_of_kept [] = refl
-  outputs_of_kept (r ∷ rows) = by_test (keeps job r) refl
-    where
-      by_test : (b : Bool) → keeps job r ≡ b → job_outputs job (r ∷ rows) ≡ map (output_of q.outs) (filter (is_kept q.filter) (r ∷ rows))
-      by_test true k =
-          let k2 : is_kept q.filter r ≡ true = sym (keeps_is job q simulates r) ∙ k in
-          rw (k, k2) (λ i. output_is r k i ∷ outputs_of_kept rows i)
-      by_test false k =
-          let k2 : is_kept q.filter r ≡ false = sym (keeps_is job q simulates r) ∙ k in
-          rw (k, k2) (outputs_of_kept rows)
+  outputs_of_kept (r ∷ rows) = by_test r rows (keeps job r) refl (outputs_of_kept rows)
 
   pub outputs_are : (rows : List Val) → job_outputs job rows ≡ map (output_of q.outs) (passed q rows)
   outputs_are rows = outputs_of_kept rows ∙ ap (λ (l : List Val). map (output_of q.outs) l) (sym (passed_is q.filter rows))
 
+module _ (job : Job) (q : Query) (simulates : Simulates job q) where
+  same_filter : (rows : List Val) → filter (keeps job) rows ≡ filter (is_kept q.filter) rows
+  same_filter [] = refl
+  same_filter (r ∷ rows) = rw (keeps_is job q simulates r) (ap (λ (l : List Val). cond (is_kept q.filter r) (r ∷ l) l) (same_filter rows))
+
   pub kept_are : (rows : List Val) → filter (keeps job) rows ≡ passed q rows
   kept_are rows = same_filter rows ∙ sym (passed_is q.filter rows)
-    where
-      same_filter : (rows : List Val) → filter (keeps job) rows ≡ filter (is_kept q.filter) rows
-      same_filter [] = refl
-      same_filter (r ∷ rows) = rw (keeps_is job q simulates r) (ap (λ l. cond (is_kept q.filter r) (r ∷ l) l) (same_filter rows))
