@@ -1,6 +1,6 @@
 -- What a job that simulates a query makes of rows is what the query makes of them.
-use Rattle.std.proofs.Common.{◌≡◌, ℕ, zero, suc, ◌+◌, ◌<◌, Bool, true, false, cond, List, [], ◌∷◌, map, take, drop, Option, None, Some, refl, sym, ◌∙◌, ap, arith}
-use Rattle.std.specs.Prelude.{slice_get, length, if◌then◌else◌}
+use Rattle.std.proofs.Common.{◌≡◌, ℕ, ◌+◌, Bool, true, false, cond, List, [], ◌∷◌, map, Option, None, Some, refl, sym, ◌∙◌, ap, subst, arith, Result}
+use Rattle.std.specs.Prelude.{slice_get, if◌then◌else◌}
 use Rattle.std.specs.List.{filter, enumerate_from}
 use Rattle.value_meaning.specs.Val.{Val}
 use Rattle.query_meaning.specs.Tree.{Ex, Outs, star, named, Query}
@@ -14,6 +14,8 @@ use Rattle.program_meaning.specs.Jobs.{Job}
 use Rattle.program_meaning.specs.Simulation.{is_kept, is_star, if_ungrouped, Simulates, ShowsNamed}
 use Rattle.answer_meaning.specs.Made.{Output, pairs_of}
 use Rattle.made_meaning.specs.MadeRows.{named_value, is_there, output_of}
+use Rattle.answer_meaning.specs.Lines.{print}
+use Rattle.block_lines.specs.Written.{Writes}
 use Rattle.block_lines.specs.RowLines.{registers_on, keeps, named_register, shown_pairs, job_output, job_outputs}
 
 abbrev Out : Type 0
@@ -94,3 +96,8 @@ module _ (job : Job) (q : Query) (simulates : Simulates job q) where
 
   pub kept_are : (rows : List Val) → filter (keeps job) rows ≡ passed q rows
   kept_are rows = same_filter rows ∙ sym (passed_is q.filter rows)
+
+-- what was written is what the query makes
+pub writes_answer : {T E : Type 0} (result : Result T E) (job : Job) (q : Query) → Simulates job q → is_grouped q ≡ false → (rows : List Val) (old new : Option (List ℕ))
+    → Writes result old new (print (job_outputs job rows)) → Writes result old new (print (map (output_of q.outs) (passed q rows)))
+writes_answer result job q simulates single rows old new h = subst (λ (o : List Output). Writes result old new (print o)) (outputs_are job q simulates single rows) h

@@ -1,7 +1,7 @@
 -- What a sink holds after pieces of a text.
-use Rattle.std.proofs.Common.{◌≡◌, ℕ, List, [], ◌∷◌, ◌++◌, take, drop, Option, Some, None, Result, Ok, Err, refl, ap, ◌∙◌, sym, append_assoc, append-nil, take-append-drop}
+use Rattle.std.proofs.Common.{◌≡◌, ℕ, List, [], ◌++◌, take, drop, Option, Some, None, Ok, Err, refl, ap, ◌∙◌, sym, append_assoc, append-nil, take-append-drop}
 use Rattle.std.specs.Io.KnownBytes.{Appends}
-use Rattle.block_lines.specs.Written.{IsPrefix, Writes}
+use Rattle.block_lines.specs.Written.{Writes}
 use Rattle.block_lines.specs.Underway.{IsUnderway}
 
 appends_nothing : (a : Option (List ℕ)) → Appends a a []

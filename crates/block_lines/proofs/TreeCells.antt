@@ -1,12 +1,12 @@
 -- The cell of a list or a struct that a lane shows.
-use Rattle.std.proofs.Common.{◌≡◌, ℕ, ◌+◌, ◌-◌, true, List, ◌++◌, length, refl, sym, ap, subst, ◌∙◌, arith}
+use Rattle.std.proofs.Common.{◌≡◌, ℕ, true, List, length, sym, ap, subst, ◌∙◌, arith}
 use Rattle.std.specs.Borrow.{Bor}
 use Rattle.block_meaning.specs.Tables.{Table, last_symbol}
 use Rattle.block_meaning.specs.CellReading.{is_cell, cell_value, blank_table}
 use Rattle.block_meaning.proofs.LastSymbol.{same_cell, length_blank}
 use Rattle.answer_meaning.specs.Lines.{value_text}
 use Rattle.ion_cells.specs.declared.cell.Cell.{Cell}
-use Rattle.ion_cells.specs.Shown.{cell_bytes, cell_last, shown, Fits}
+use Rattle.ion_cells.specs.Shown.{cell_bytes, shown}
 use Rattle.lane_base.specs.declared.lanes.Look.{Look}
 use Rattle.lane_base.specs.declared.lanes.Look.TheVariants.{Tree}
 use Rattle.lane_base.specs.Shown.{IsTree, IsLegal, value_under}

@@ -2,7 +2,7 @@
 use Rattle.std.specs.Prelude.{ℕ, Bool, true, List, map, if◌then◌else◌}
 use Rattle.std.specs.List.{filter}
 use Rattle.value_meaning.specs.Val.{Val}
-use Rattle.program_meaning.specs.Registers.{Lane, State, after, mask_at, value_at}
+use Rattle.program_meaning.specs.Registers.{State, after, mask_at, value_at}
 use Rattle.program_meaning.specs.Jobs.{Job}
 use Rattle.answer_meaning.specs.Made.{Output, pairs_of}
 use Rattle.made_meaning.specs.MadeRows.{is_there}

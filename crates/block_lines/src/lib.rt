@@ -2,7 +2,9 @@
 //! value built for a row.
 #![tactic(auto)]
 
+mod chunks;
 mod fault;
+mod lines;
 mod pairs;
 mod writing;
 

@@ -13,12 +13,29 @@ ghost use Rattle.lane_ssa.specs.Counts.{counted};
 ghost use Rattle.block_lines.specs.Underway.{IsUnderway};
 ghost use Rattle.block_lines.specs.Written.{Writes};
 
+use crate::chunks::append_chunk;
 use crate::fault::LinesFault;
 use block_file::Block;
 use lane_ssa::Frame;
 use snel_device::{Failed, Out};
 use snel_values::Bytes;
 use std::alloc::Global;
+
+/// Puts the bytes and drops them, where they are at least so many.
+fn put_from<O: Out>(lines: &mut Bytes, least: usize, out: &mut O) -> Result<(), Failed>
+    requires { 1 ≤ least }
+    ensures taken { OnOk result (IsUnderway (O.holds out.old) (O.holds out.new) lines.new [] lines.old) }
+    ensures few { OnOk result (length lines.new < least) }
+    ensures cut { OnErr result ((n : ℕ) × Appends (O.holds out.old) (O.holds out.new) (take n lines.old)) }
+    ensures fault { HasCause (O.faults out.old) (O.faults out.new) (IsErr result) }
+{
+    if lines.len() < least {
+        return Ok(());
+    }
+    out.put(lines.as_slice())?;
+    lines.clear();
+    Ok(())
+}
 
 /// Binds the frame to the block, runs its job over the block's rows, sixteen at a time, writes a line for each row that
 /// passes, in order, and says how many they are. A line is the JSON object of what the job's ends name: the whole row for
@@ -43,9 +60,23 @@ pub fn write_lines<'b, O: Out>(
     ensures job { frame.new.job ≡ frame.old.job }
     ensures fault { HasCause (O.faults out.old) (O.faults out.new) (IsErrOf result LinesFault.WriteFault) }
 {
-    let _ = alloc;
-    let _ = frame;
-    let _ = block;
-    let _ = out;
-    Err(LinesFault::OutOfMemory)
+    frame.bind(block.table());
+    block.know();
+    let mut lines = Bytes::new(alloc);
+    let mut count = 0u64;
+    let mut first = 0;
+    while first < block.rows() {
+        let Ok(kept) = append_chunk(&mut lines, frame, block, first) else {
+            return Err(LinesFault::OutOfMemory);
+        };
+        let Ok(()) = put_from(&mut lines, 65_536, out) else {
+            return Err(LinesFault::WriteFault);
+        };
+        count += u64::from(kept);
+        first += 16;
+    }
+    let Ok(()) = put_from(&mut lines, 1, out) else {
+        return Err(LinesFault::WriteFault);
+    };
+    Ok(count)
 }

@@ -1,4 +1,4 @@
-use Rattle.std.proofs.Common.{◌≡◌, ◌++◌, OnOk, ℕ, List, subst, ap}
+use Rattle.std.proofs.Common.{◌≡◌, ◌++◌, OnOk, ℕ, List, subst}
 use Rattle.block_lines.proofs.TreeCells.{blank_is_cell, text_of_tree}
 use Rattle.block_lines.proofs.pairs.append_look.Goals as goal
 
