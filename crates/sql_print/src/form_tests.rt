@@ -44,7 +44,10 @@ fn prints_literals(rt: HostRuntime) -> Result<(), Fail> {
         "`2024-02-29T00:00:00.000007Z`",
     ];
     for at in 0..texts.len() {
-        assert!(rt; shows(rt.alloc(), literal(rt.alloc(), at)?, texts[at])?, "{at}");
+        assert!(rt;
+            shows(rt.alloc(), literal(rt.alloc(), at)?, texts[at])?,
+            "{at}"
+        );
     }
     Ok(())
 }
@@ -67,7 +70,10 @@ fn prints_operators(rt: HostRuntime) -> Result<(), Fail> {
         (BinOp::Or, "(\"t\".\"a\" OR 1)"),
     ];
     for (op, wanted) in cases {
-        assert!(rt; shows(rt.alloc(), with_number(rt.alloc(), op, 1)?, wanted)?, "{wanted}");
+        assert!(rt;
+            shows(rt.alloc(), with_number(rt.alloc(), op, 1)?, wanted)?,
+            "{wanted}"
+        );
     }
     Ok(())
 }
@@ -135,7 +141,10 @@ fn prints_forms_of_one_operand(rt: HostRuntime) -> Result<(), Fail> {
         "COUNT(*)",
     ];
     for at in 0..texts.len() {
-        assert!(rt; shows(rt.alloc(), of_one(rt.alloc(), at)?, texts[at])?, "{at}");
+        assert!(rt;
+            shows(rt.alloc(), of_one(rt.alloc(), at)?, texts[at])?,
+            "{at}"
+        );
     }
     Ok(())
 }
@@ -161,7 +170,10 @@ fn prints_matches(rt: HostRuntime) -> Result<(), Fail> {
         (How::Contains, "CONTAINS(\"t\".\"a\", 'x%''')"),
     ];
     for (how, wanted) in cases {
-        assert!(rt; shows(rt.alloc(), matched(rt.alloc(), how)?, wanted)?, "{wanted}");
+        assert!(rt;
+            shows(rt.alloc(), matched(rt.alloc(), how)?, wanted)?,
+            "{wanted}"
+        );
     }
     Ok(())
 }
@@ -201,7 +213,10 @@ fn prints_aggregates(rt: HostRuntime) -> Result<(), Fail> {
         "BOOL_OR(\"t\".\"a\")",
     ];
     for at in 0..texts.len() {
-        assert!(rt; shows(rt.alloc(), aggregate(rt.alloc(), at)?, texts[at])?, "{at}");
+        assert!(rt;
+            shows(rt.alloc(), aggregate(rt.alloc(), at)?, texts[at])?,
+            "{at}"
+        );
     }
     Ok(())
 }
