@@ -6,6 +6,8 @@ mod chunks;
 mod fault;
 mod lines;
 mod pairs;
+#[cfg(test)]
+mod tests;
 mod writing;
 
 pub use fault::LinesFault;
