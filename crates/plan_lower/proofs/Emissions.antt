@@ -1,5 +1,5 @@
 -- What each function of the emission answers for, over plain variables.
-use Rattle.std.proofs.Common.{◌≡◌, ℕ, ◌+◌, ◌<◌, refl, ap, sym, subst, ◌∙◌, List, [], ◌∷◌, ◌++◌, map, take, Option, Some, Result, IfOk}
+use Rattle.std.proofs.Common.{◌≡◌, ℕ, ◌+◌, ◌<◌, refl, ap, sym, subst, ◌∙◌, List, [], ◌∷◌, ◌++◌, map, take, Option, Some, Result, Ok, IfOk}
 use Rattle.std.proofs.lemmas.List.{map-append}
 use Rattle.std.specs.Prelude.{slice_get}
 use Rattle.value_meaning.specs.Val.{Val}
@@ -43,6 +43,9 @@ module _ {E : Type 0} (result : Result ℕ E) where
 
   pub filter_emitted : (old mid new : List Instr) (m a : ℕ) (e : Ex) → m < mask_count old → Emits old mid e m a → Grows result mid new (holding m a) → IsNumbered result mid (holding m a) → IfOk result (λ k. Keeps old new (Some e) m k)
   filter_emitted old mid new m a e known h g n = if_ok_both result (λ k p q. keeps_holding old mid new e m a k known h p q) g n
+
+pub row_emitted_at : (old new : List Instr) (m r : ℕ) → new ≡ old ++ make m row ∷ [] → r ≡ number_after old (make m row) → Computes old new (path_of []) m r
+row_emitted_at old new m r g n = (let given : Result ℕ ℕ = Ok r in row_emitted given old new m g n)
 
 -- a path with one step more
 path_more : (ss : List Step) (s : Step) (v : Val) → path_of (ss ++ s ∷ []) v ≡ step_of s (path_of ss v)

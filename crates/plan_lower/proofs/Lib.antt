@@ -5,3 +5,4 @@ pub mod Emissions
 pub mod PlainQueries
 pub mod PlainJobs
 pub mod Lines
+pub mod HeldConstants

@@ -51,26 +51,23 @@ all_counted (x ∷ xs) =
     ap2 (λ m v. m + v) (sum_by-cons (λ y. cond (makes_mask y) 1 0) x xs) (sum_by-cons (λ y. cond (makes_value y) 1 0) x xs)
     ∙ one_of_two (makes_mask x) (mask_count xs) (value_count xs) (length xs) (all_counted xs)
 
-counted_to : (xs : List Instr) (k : ℕ) → k < length xs → mask_count (take k xs) + value_count (take k xs) ≡ k
+counted_to : (xs : List Instr) (k : ℕ) → k ≤ length xs → mask_count (take k xs) + value_count (take k xs) ≡ k
 counted_to xs k h = all_counted (take k xs) ∙ omega (arith, h, length-take k xs)
-
-pub masks_within : (xs : List Instr) (k : ℕ) → k < length xs → mask_count (take k xs) ≤ k
-masks_within xs k h = omega (arith, counted_to xs k h)
 
 -- one instruction more
 module _ (xs : List Instr) (k : ℕ) (x : Instr) (at : slice_get xs k ≡ Some x) (masks : ℕ) (are : masks ≡ mask_count (take k xs)) where
   pub program_more : (old text new : List ℕ) → k < length xs → text ≡ old ++ lines_to xs k → new ≡ text ++ instr_line masks (k - masks) x → new ≡ old ++ lines_to xs (k + 1)
   program_more old text new inside h is =
       let numbered : slice_get (enumerate_from 0 xs) k ≡ Some (k, x) = numbered_at xs 0 k x at ∙ ap (λ m. Some (m, x)) (omega arith) in
-      let values : k - masks ≡ value_count (take k xs) = omega (arith, are, counted_to xs k inside) in
+      let values : k - masks ≡ value_count (take k xs) = omega (arith, are, counted_to xs k (omega (arith, inside))) in
       lines_more (line_of xs) old text new (enumerate_from 0 xs) k (k, x) numbered h
       (is ∙ ap (λ l. text ++ l) (ap2 (λ m v. instr_line m v x) are values))
 
-  pub mask_more : makes_mask x ≡ true → masks + 1 ≡ mask_count (take (k + 1) xs)
-  mask_more h = omega (arith, are, ap mask_count (take_more xs k x at) ∙ mask_count-push (take k xs) x ∙ ap (λ b. mask_count (take k xs) + cond b 1 0) h)
+  pub mask_more : masks + cond (makes_mask x) 1 0 ≡ mask_count (take (k + 1) xs)
+  mask_more = ap (λ n. n + cond (makes_mask x) 1 0) are ∙ sym (mask_count-push (take k xs) x) ∙ sym (ap mask_count (take_more xs k x at))
 
-  pub no_mask_more : makes_mask x ≡ false → masks ≡ mask_count (take (k + 1) xs)
-  no_mask_more h = omega (arith, are, ap mask_count (take_more xs k x at) ∙ mask_count-push (take k xs) x ∙ ap (λ b. mask_count (take k xs) + cond b 1 0) h)
+  pub mask_within : k < length xs → masks + cond (makes_mask x) 1 0 ≤ k + 1
+  mask_within h = omega (arith, mask_more, counted_to xs (k + 1) (omega (arith, h)))
 
 pub program_done : (xs : List Instr) (k : ℕ) → length xs ≤ k → lines_to xs k ≡ program_text xs
 unfolding program_text

@@ -162,9 +162,7 @@ pub(crate) fn put_program(text: &mut Bytes, instrs: &[Instr]) -> Result<(), OutO
     for at in 0..instrs.len() {
         let instr = instr_at(instrs, at);
         put_line(text, instr, masks, at as u64 - masks)?;
-        if makes_mask(instr) {
-            masks += 1;
-        }
+        masks += u64::from(makes_mask(instr));
     }
     Ok(())
 }
