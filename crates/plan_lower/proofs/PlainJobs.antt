@@ -10,9 +10,9 @@ use Rattle.check_meaning.specs.Places.{output_exs}
 use Rattle.check_meaning.specs.Aggregates.{is_grouped, aggregates}
 use Rattle.eval_meaning.specs.Evaluation.{eval}
 use Rattle.program_meaning.specs.Instructions.{Instr, all}
-use Rattle.program_meaning.specs.Programs.{mask_count, value_count, Extends}
+use Rattle.program_meaning.specs.Programs.{mask_count, value_count, Extends, IsProgram}
 use Rattle.program_meaning.specs.Registers.{Lane, lane_of, State, empty, after, mask_at, value_at, within, HasRun}
-use Rattle.program_meaning.specs.Jobs.{Ends, Job, AreEnds}
+use Rattle.program_meaning.specs.Jobs.{Ends, Job, AreEnds, IsJob}
 use Rattle.program_meaning.specs.Simulation.{is_star, is_kept, passes, if_ungrouped, if_grouped, order_exs, operand_on, ShowsNamed, Simulates}
 use Rattle.program_meaning.proofs.Persist.{extends_further, mask_stays}
 use Rattle.plan_lower.specs.Forms.{is_lowered}
@@ -80,22 +80,6 @@ module _ (q : Query) (lowered : is_lowered q ≡ true) (outs : List (List ℕ ×
         aggs = rw ungrouped refl;
       }
 
-  simulates_as : map (λ (o : List ℕ × ℕ). o.0) outs ≡ names q.outs → Simulates (record { program = p3; ends = plain_ends keep (is_star q.outs) outs }) q
-  simulates_as titles =
-      record {
-        star = refl;
-        grouped = sym ungrouped;
-        names = rw ungrouped titles;
-        kept = λ rows first lanes run i h. ap (λ s. mask_at s keep) (at_lane rows first i lanes run h) ∙ passed (slice_get rows (first + i));
-        shows = λ rows first lanes run i h row is kept. shows_named (lanes i) row (at_lane rows first i lanes run h ∙ ap (λ r. after (lane_of r) p3) is) kept;
-      }
-
-  job_is : (job : Job) → job.program ≡ p3 → job.ends ≡ plain_ends keep (is_star q.outs) outs → record { program = p3; ends = plain_ends keep (is_star q.outs) outs } ≡ job
-  job_is job p e = λ i. record { program = sym p i; ends = sym e i }
-
-  pub simulates : (job : Job) → job.program ≡ p3 → job.ends ≡ plain_ends keep (is_star q.outs) outs → map (λ (o : List ℕ × ℕ). o.0) outs ≡ names q.outs → Simulates job q
-  simulates job p e titles = subst (λ j. Simulates j q) (job_is job p e) (simulates_as titles)
-
   outs_made : (os : List (List ℕ × ℕ)) → All (λ (r : ℕ). r < value_count p3) (registers_of os) → All (λ (o : List ℕ × ℕ). o.1 < value_count p3) os
   outs_made os h k d inside =
       subst (λ n. n < value_count p3) (get_or-map (λ (o : List ℕ × ℕ). o.1) os k d) (h k d.1 (omega (arith, inside, length-map os (λ (o : List ℕ × ℕ). o.1))))
@@ -111,3 +95,23 @@ module _ (q : Query) (lowered : is_lowered q ≡ true) (outs : List (List ℕ ×
         no_outs = λ h. absurd (cc);
         no_sorts = λ h. absurd (cc);
       }
+
+  simulates_as : IsProgram p3 → map (λ (o : List ℕ × ℕ). o.0) outs ≡ names q.outs → Simulates (record { program = p3; ends = plain_ends keep (is_star q.outs) outs }) q
+  simulates_as program titles =
+      record {
+        is_job = record { program = program; ends = are_ends };
+        star = refl;
+        grouped = sym ungrouped;
+        names = rw ungrouped titles;
+        sorts = rw (ungrouped, plain.order) refl;
+        groups = rw ungrouped refl;
+        aggs = rw ungrouped refl;
+        kept = λ rows first lanes run i h. ap (λ s. mask_at s keep) (at_lane rows first i lanes run h) ∙ passed (slice_get rows (first + i));
+        shows = λ rows first lanes run i h row is kept. shows_named (lanes i) row (at_lane rows first i lanes run h ∙ ap (λ r. after (lane_of r) p3) is) kept;
+      }
+
+  job_is : (job : Job) → job.program ≡ p3 → job.ends ≡ plain_ends keep (is_star q.outs) outs → record { program = p3; ends = plain_ends keep (is_star q.outs) outs } ≡ job
+  job_is job p e = λ i. record { program = sym p i; ends = sym e i }
+
+  pub simulates : (job : Job) → IsProgram p3 → job.program ≡ p3 → job.ends ≡ plain_ends keep (is_star q.outs) outs → map (λ (o : List ℕ × ℕ). o.0) outs ≡ names q.outs → Simulates job q
+  simulates job program p e titles = subst (λ j. Simulates j q) (job_is job p e) (simulates_as program titles)

@@ -1,5 +1,7 @@
 -- The queries that are lowered have no groups, and each literal of theirs is a constant.
 use Rattle.std.proofs.Common.{◌≡◌, ℕ, ◌+◌, Bool, true, false, ◌&&◌, ◌||◌, not, List, [], ◌∷◌, ◌++◌, map, length, All, Option, Some, None, IfSome, refl, ap, sym, ◌∙◌, arith}
+use Rattle.std.proofs.lemmas.List.{length-map}
+use Rattle.std.proofs.lemmas.List.FromFn.{length-enumerate_from}
 use Rattle.std.proofs.lemmas.Bool.{le-leb}
 use Rattle.std.proofs.lemmas.Bool.Decides.{nat_tests}
 use Rattle.std.proofs.lemmas.List.Folds.{list_any-append}
@@ -10,7 +12,7 @@ use Rattle.query_meaning.specs.BinOp.{BinOp}
 use Rattle.query_meaning.specs.BinOp as op
 use Rattle.query_meaning.specs.Tree.{Ex, lit, path, neg, no, bin, is, member, between, matching, choice, cast, call, trunc, extract, shift, agg_of_rows, agg, Outs, star, named, Query}
 use Rattle.query_meaning.specs.WellFormed.{IsNumber, IsLiteral}
-use Rattle.check_meaning.specs.Names.{items_of}
+use Rattle.check_meaning.specs.Names.{items_of, names, output_name}
 use Rattle.check_meaning.specs.Parts.{within, unless, parts_outside, none}
 use Rattle.check_meaning.specs.Place.{Place, output, where_test, group_key, having, order_key}
 use Rattle.check_meaning.specs.Places.{output_exs, order_ex, places, counted, alone}
@@ -166,3 +168,15 @@ is_operator op.lt h = absurd (cc)
 is_operator op.le h = absurd (cc)
 is_operator op.gt h = absurd (cc)
 is_operator op.ge h = absurd (cc)
+
+-- the names of outputs
+pub names_of_star : (outs : Outs) → outs ≡ star → names outs ≡ []
+unfolding names
+names_of_star outs h = ap (λ o. map (λ (n : ℕ × (Ex × Option (List ℕ))). output_name n.0 n.1) (enumerate_from 1 (items_of o))) h
+
+pub length_of_names : (outs : Outs) (items : List (Ex × Option (List ℕ))) → outs ≡ named items → length (names outs) ≡ length items
+unfolding names
+length_of_names outs items h =
+    ap (λ o. length (names o)) h
+    ∙ length-map (enumerate_from 1 items) (λ (n : ℕ × (Ex × Option (List ℕ))). output_name n.0 n.1)
+    ∙ length-enumerate_from 1 items

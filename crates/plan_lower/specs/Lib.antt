@@ -2,3 +2,4 @@ pub mod Forms
 pub mod Emitting
 pub mod Listing
 pub mod Ends
+pub mod Constants

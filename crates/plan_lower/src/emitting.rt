@@ -1,5 +1,5 @@
 //! From expressions to instructions.
-ghost use Rattle.std.specs.Prelude.{◌≡◌, ◌<◌, IfOk, map, true};
+ghost use Rattle.std.specs.Prelude.{◌≡◌, ◌<◌, IfOk, map, length, slice_get, Some, true};
 ghost use Rattle.query_meaning.specs.Tree.{lit, no, bin, is};
 ghost use Rattle.query_meaning.specs.WellFormed.{IsLiteral, IsFormed};
 ghost use Rattle.eval_meaning.specs.Paths.{step_of, path_of};
@@ -50,6 +50,17 @@ fn emit_step(
     }
 }
 
+/// The step of a path at a place, counted from 0.
+fn step_at(steps: &Steps, at: usize) -> &Step
+    requires { at < length steps.now }
+    ensures { slice_get steps.now at ≡ Some result.now }
+{
+    match steps.get(at) {
+        Some(step) => step,
+        None => unreachable!(),
+    }
+}
+
 /// A path: the row, and an instruction for each step from there.
 fn emit_path(
     alloc: Global,
@@ -62,10 +73,7 @@ fn emit_path(
 {
     let mut of = builder.put(Instr::Root { mask })?;
     for at in 0..steps.len() {
-        let Some(step) = steps.get(at) else {
-            unreachable!()
-        };
-        of = emit_step(alloc, builder, step, of, mask)?;
+        of = emit_step(alloc, builder, step_at(steps, at), of, mask)?;
     }
     Ok(of)
 }

@@ -1,5 +1,5 @@
 //! From accepted queries to jobs.
-ghost use Rattle.std.specs.Prelude.{◌≡◌, ◌<◌, IfOk, IfSome, All, length, map, true};
+ghost use Rattle.std.specs.Prelude.{◌≡◌, ◌<◌, IfOk, IfSome, All, length, slice_get, Some, true};
 ghost use Rattle.std.specs.Option.{option_map};
 ghost use Rattle.std.specs.List.{list_all};
 ghost use Rattle.query_meaning.specs.WellFormed.{IsFormed, IsOutput, AreOutputs, IsWellFormed};
@@ -9,6 +9,7 @@ ghost use Rattle.program_meaning.specs.Programs.{mask_count};
 ghost use Rattle.program_meaning.specs.Simulation.{Simulates};
 ghost use Rattle.program_meaning.specs.Simulation as simulation;
 ghost use Rattle.sql_tree.specs.View.{view};
+ghost use Rattle.sql_tree.specs.Parts.{item_view};
 ghost use Rattle.sql_tree.specs.Queries.{outs_view};
 ghost use Rattle.plan_lower.specs.Forms.{is_lowered_output, are_lowered_outs, is_lowered_filter, is_lowered};
 ghost use Rattle.plan_lower.specs.Emitting.{Emits, EmitsAll, Keeps};
@@ -18,8 +19,8 @@ ghost use Rattle.lane_ssa.specs.Views.{ends_view};
 use crate::emitting::emit_expr;
 use lane_ssa::{Builder, EndAggs, EndOut, EndOuts, Ends, Instr, Job, Registers};
 use query_check::{Checked, Names};
-use snel_values::OutOfMemory;
-use sql_tree::{Expr, OutItems, Outputs};
+use snel_values::{OutOfMemory, Text};
+use sql_tree::{Expr, Item, OutItems, Outputs};
 use std::alloc::Global;
 
 /// Adds the instructions of WHERE, if it stands; the mask of the lanes that pass.
@@ -43,6 +44,28 @@ fn emit_filter(
     }
 }
 
+/// The output at a place, counted from 0.
+fn item_at(items: &OutItems, at: usize) -> &Item
+    requires { at < length items.now }
+    ensures { slice_get items.now at ≡ Some (item_view result.now) }
+{
+    match items.get(at) {
+        Some(item) => item,
+        None => unreachable!(),
+    }
+}
+
+/// The name at a place, counted from 0.
+fn name_at(names: &Names, at: usize) -> &Text
+    requires { at < length names.now }
+    ensures { slice_get names.now at ≡ Some result.now }
+{
+    match names.get(at) {
+        Some(name) => name,
+        None => unreachable!(),
+    }
+}
+
 /// Adds the instructions of outputs under a mask; their names and registers.
 fn emit_items(
     alloc: Global,
@@ -60,11 +83,8 @@ fn emit_items(
 {
     let mut outs = EndOuts::new(alloc);
     for at in 0..items.len() {
-        let (Some(item), Some(name)) = (items.get(at), names.get(at)) else {
-            unreachable!()
-        };
-        let name = name.copy(alloc)?;
-        let register = emit_expr(alloc, builder, &item.expr, mask)?;
+        let register = emit_expr(alloc, builder, &item_at(items, at).expr, mask)?;
+        let name = name_at(names, at).copy(alloc)?;
         outs.push(EndOut { name, register })?;
     }
     Ok(outs)
