@@ -1,0 +1,9 @@
+pub mod Views
+pub mod EndParts
+pub mod JobViews
+pub mod CodedJob
+pub mod Built
+pub mod Counts
+pub mod Frames
+pub mod Bound
+pub mod ChunksOf
