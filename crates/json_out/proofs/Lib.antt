@@ -1,5 +1,3 @@
-pub mod Dates
-pub mod Spelling
 pub mod Runs
 pub mod OfKind
 pub mod Going

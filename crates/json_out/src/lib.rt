@@ -2,7 +2,6 @@
 #![tactic(auto)]
 
 mod checks;
-mod clock;
 mod lines;
 mod maker;
 mod numbers;

@@ -7,7 +7,7 @@ ghost use Rattle.json_out.specs.NoMissing.{HasNoMissing, HaveNoMissing, PairsHav
 
 use crate::numbers::put_number;
 use crate::texts::put_quoted;
-use crate::times::put_time;
+use crate::times::put_quoted_time;
 use snel_values::{Bytes, Items, OutOfMemory, Pairs, Value};
 
 /// Adds a comma, where something stands before.
@@ -44,7 +44,7 @@ pub(crate) fn put_owned(into: &mut Bytes, value: &Value) -> Result<(), OutOfMemo
         Value::Bool(true) => into.push_all(b"true"),
         Value::Bool(false) => into.push_all(b"false"),
         Value::Int(number) => put_number(into, *number),
-        Value::Time(time) => put_time(into, *time),
+        Value::Time(time) => put_quoted_time(into, *time),
         Value::Text(text) => put_quoted(into, text.as_str()),
         Value::List(items) => put_items(into, items),
         Value::Struct(pairs) => put_pairs(into, pairs),

@@ -7,7 +7,7 @@ ghost use Rattle.ion_cells.specs.Iterating.{items_last, values_left, fields_last
 
 use crate::numbers::put_number;
 use crate::texts::put_quoted;
-use crate::times::put_time;
+use crate::times::put_quoted_time;
 use ion_cells::{Cell, Cells, Fields, Kind};
 use ion_symtab::SymTab;
 use snel_values::{Bytes, OutOfMemory};
@@ -35,7 +35,7 @@ pub(crate) fn put_value(
             None => unreachable!(),
         },
         Kind::Time => match cell.micros() {
-            Some(time) => put_time(into, time),
+            Some(time) => put_quoted_time(into, time),
             None => unreachable!(),
         },
         Kind::Text => match cell.text() {

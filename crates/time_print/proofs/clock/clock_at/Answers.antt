@@ -4,8 +4,8 @@ use Rattle.std.specs.Prelude.{unsigned_abs}
 use Rattle.jiff_core.specs.Calendar.{days_from_civil}
 use Rattle.jiff_core.proofs.SignedLemmas.{signed_arith, signed_casts}
 use Rattle.time_meaning.specs.Printed.{day_at}
-use Rattle.json_out.proofs.Dates.{date_of}
-use Rattle.json_out.proofs.clock.clock_at.Goals as goal
+use Rattle.time_print.proofs.Dates.{date_of}
+use Rattle.time_print.proofs.clock.clock_at.Goals as goal
 
 pub returns-clause-year : goal.returns-clause-year
 returns-clause-year c =

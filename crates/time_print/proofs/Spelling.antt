@@ -16,19 +16,16 @@ pub text_is : (t : ℤ) (year month day second micros : ℕ) → Shows t year mo
 unfolding time_text
 text_is t year month day second micros h = rw (h.year_is, h.month_is, h.day_is, h.second_is, h.micros_is) refl
 
-joined : (old s e : List ℕ) → (old ++ 34 ∷ s) ++ (e ++ 34 ∷ []) ≡ old ++ 34 ∷ ((s ++ e) ++ 34 ∷ [])
-joined old s e = simp append_assoc
-
 -- the text of a time with no microseconds left
 pub whole : (t : ℤ) (old : List ℕ) (year month day second micros : ℕ) → Shows t year month day second micros → micros ≡ 0
-    → (old ++ 34 ∷ to_second year month day (second / 3600) (second / 60 % 60) (second % 60)) ++ 90 ∷ 34 ∷ [] ≡ old ++ 34 ∷ (time_text t ++ 34 ∷ [])
+    → (old ++ to_second year month day (second / 3600) (second / 60 % 60) (second % 60)) ++ 90 ∷ [] ≡ old ++ time_text t
 whole t old year month day second micros h e =
     let none : after_second micros ≡ 90 ∷ [] = rw e refl in
-    rw (text_is t year month day second micros h, none) (joined old _ (90 ∷ []))
+    rw (text_is t year month day second micros h, none) (append_assoc old _ (90 ∷ []))
 
 -- the text of a time with microseconds left
 pub with_fraction : (t : ℤ) (old : List ℕ) (year month day second micros : ℕ) → Shows t year month day second micros → eqb micros 0 ≡ false
-    → (old ++ 34 ∷ to_second year month day (second / 3600) (second / 60 % 60) (second % 60)) ++ 46 ∷ (six micros ++ 90 ∷ 34 ∷ []) ≡ old ++ 34 ∷ (time_text t ++ 34 ∷ [])
+    → (old ++ to_second year month day (second / 3600) (second / 60 % 60) (second % 60)) ++ 46 ∷ (six micros ++ 90 ∷ []) ≡ old ++ time_text t
 with_fraction t old year month day second micros h e =
     let some : after_second micros ≡ 46 ∷ (six micros ++ 90 ∷ []) = rw e refl in
-    rw (text_is t year month day second micros h, some) (joined old _ (46 ∷ (six micros ++ 90 ∷ [])))
+    rw (text_is t year month day second micros h, some) (append_assoc old _ (46 ∷ (six micros ++ 90 ∷ [])))

@@ -1,0 +1,19 @@
+ghost use Rattle.std.specs.Prelude.{◌≡◌, ◌++◌, decimal, OnOk};
+
+use itoa::Buffer;
+use snel_values::{Bytes, OutOfMemory};
+
+/// Adds the piece.
+pub(crate) fn put(text: &mut Bytes, piece: &str) -> Result<(), OutOfMemory>
+    ensures { OnOk result (text.new ≡ text.old ++ piece.now) }
+{
+    text.push_all(piece.as_bytes())
+}
+
+/// Adds the number's decimal digits.
+pub(crate) fn put_digits(text: &mut Bytes, number: u128) -> Result<(), OutOfMemory>
+    ensures { OnOk result (text.new ≡ text.old ++ decimal number) }
+{
+    let mut digits = Buffer::new();
+    put(text, digits.format(number))
+}

@@ -1,0 +1,59 @@
+ghost use Rattle.std.specs.Prelude.{◌≡◌, ◌++◌, ◌<◌, length, slice_get, Some, OnOk};
+ghost use Rattle.sql_tree.specs.View.{view, arm_view};
+ghost use Rattle.sql_tree.specs.Parts.{item_view, key_view};
+ghost use Rattle.print_meaning.specs.Texts.{separator};
+
+use crate::pieces::put;
+use snel_values::{Bytes, OutOfMemory};
+use sql_tree::{Arm, Arms, Expr, Exprs, Item, OrderKey, OrderKeys, OutItems};
+
+/// Adds what stands before the member of a list at a place, counted from 0.
+pub(crate) fn put_separator(text: &mut Bytes, at: usize) -> Result<(), OutOfMemory>
+    ensures { OnOk result (text.new ≡ text.old ++ separator at) }
+{
+    if at == 0 { Ok(()) } else { put(text, ", ") }
+}
+
+/// The expression of a list at a place, counted from 0.
+pub(crate) fn expr_at(list: &Exprs, at: usize) -> &Expr
+    requires { at < length list.now }
+    ensures { slice_get list.now at ≡ Some (view result.now) }
+{
+    match list.get(at) {
+        Some(found) => found,
+        None => unreachable!(),
+    }
+}
+
+/// The arm of a CASE at a place, counted from 0.
+pub(crate) fn arm_at(list: &Arms, at: usize) -> &Arm
+    requires { at < length list.now }
+    ensures { slice_get list.now at ≡ Some (arm_view result.now) }
+{
+    match list.get(at) {
+        Some(found) => found,
+        None => unreachable!(),
+    }
+}
+
+/// The output at a place, counted from 0.
+pub(crate) fn item_at(list: &OutItems, at: usize) -> &Item
+    requires { at < length list.now }
+    ensures { slice_get list.now at ≡ Some (item_view result.now) }
+{
+    match list.get(at) {
+        Some(found) => found,
+        None => unreachable!(),
+    }
+}
+
+/// The order key at a place, counted from 0.
+pub(crate) fn key_at(list: &OrderKeys, at: usize) -> &OrderKey
+    requires { at < length list.now }
+    ensures { slice_get list.now at ≡ Some (key_view result.now) }
+{
+    match list.get(at) {
+        Some(found) => found,
+        None => unreachable!(),
+    }
+}
