@@ -13,6 +13,7 @@ use Rattle.time_index.specs.Answers.{Knows}
 use Rattle.query_run.specs.declared.query_fault.QueryFault.{QueryFault}
 use Rattle.query_run.specs.declared.query_fault.QueryFault.TheVariants.{Text, Absent, NotAFile, Damaged, ReadFault, WriteFault, OutOfMemory}
 use Rattle.query_run.specs.Queries.{Accepts, IsAccepted}
+use Rattle.block_lines.specs.Written.{Writes}
 use Rattle.query_run.specs.Headline.{Answers, AddsAnswer}
 use Rattle.query_run.specs.Statuses.{status_of, status_after, IsWriteOrMemory, IsBlockFault}
 use Rattle.query_run.specs.Verdicts.{Verdict, no_query, no_such_file, no_block_file, bad_block, rows, unknown, Allows, EndsAs}
@@ -20,7 +21,7 @@ use Rattle.query_run.specs.Causes.{FindsInBlock, FindsInFile, FindsInFiles, Find
 use Rattle.query_run.specs.Faults.{SaysOfQuery, HasItsCause, IsQuiet, SaysOfText}
 use Rattle.query_run.specs.Loading.{HasBlock}
 use Rattle.query_run.proofs.Built.{not_both, one_accepted}
-use Rattle.query_run.proofs.Sink.{Writes, lines_of, Keeps-same}
+use Rattle.query_run.proofs.Sink.{Took, took, lines_of, Keeps-same}
 use Rattle.query_run.proofs.Verdicts.{adds, memory_allowed}
 use Rattle.query_run.proofs.OneBlock.{knows, one_entry}
 
@@ -55,10 +56,10 @@ unknown_allowed (Err ReadFault) h = absurd h
 
 -- the lines of the block's rows were written, or some of them
 module _ {A : Type 0} (sql : List ℕ) (q : Query) (taken : Accepts sql q) (n : ℕ) (bytes : List ℕ) (table : Table) (rs : List Val) (r : Result A QueryFault) (old new : Option (List ℕ)) where
-  answers : Writes (status_after r) old new (lines_of q rs) → Answers sql rs (status_after r) old new
-  answers w p accepts = let same = one_accepted sql q p taken accepts in subst (λ (x : Query). AddsAnswer x rs (status_after r) old new) same (adds sql q taken rs (status_after r) old new w)
+  answers : Writes r old new (lines_of q rs) → Answers sql rs (status_after r) old new
+  answers w p accepts = let same = one_accepted sql q p taken accepts in subst (λ (x : Query). AddsAnswer x rs (status_after r) old new) same (adds sql q taken rs (status_after r) old new (took r old new (lines_of q rs) w))
 
-  pub ends_written : IsBlock table rs bytes → length rs ≡ n → IsWriteOrMemory r → Writes (status_after r) old new (lines_of q rs) → (v : Verdict) → FindsInBlock n bytes v → EndsAs sql v (status_after r) old new
+  pub ends_written : IsBlock table rs bytes → length rs ≡ n → IsWriteOrMemory r → Writes r old new (lines_of q rs) → (v : Verdict) → FindsInBlock n bytes v → EndsAs sql v (status_after r) old new
   ends_written block count ends w (no_query x) f = absurd f
   ends_written block count ends w no_such_file f = absurd f
   ends_written block count ends w no_block_file f = absurd f
@@ -70,16 +71,6 @@ module _ {A : Type 0} (sql : List ℕ) (q : Query) (taken : Accepts sql q) (n : 
         wrote = subst (λ (l : List Val). Answers sql l (status_after r) old new) same (answers w);
       }
   ends_written block count ends w unknown f = record { allowed = unknown_allowed r ends; wrote = (w.added, w.appends) }
-
--- no fault has status 0
-pub not_zero : (r : QueryFault) → status_of r ≡ 0 → ⊥
-not_zero (Text q) e = omega arith
-not_zero Absent e = omega arith
-not_zero NotAFile e = omega arith
-not_zero Damaged e = omega arith
-not_zero ReadFault e = omega arith
-not_zero WriteFault e = omega arith
-not_zero OutOfMemory e = omega arith
 
 -- what an accepted query gives rise to, its file does
 pub finds_file : (sql name : List ℕ) (told : Option Contents) (v : Verdict) → IsAccepted sql → Finds sql told name v → FindsInFiles told name v

@@ -4,6 +4,8 @@ use Rattle.query_meaning.specs.Tree.{Query}
 use Rattle.query_meaning.specs.Faults.{ComesTo, is_query}
 use Rattle.query_meaning.specs.Faults as text
 use Rattle.query_meaning.proofs.Verdicts.{verdict-one}
+use Rattle.program_meaning.specs.Jobs.{Job}
+use Rattle.query_run.specs.Jobs.{Compiles}
 use Rattle.query_run.specs.Queries.{Refused, unread, unchecked, not_built, Accepts, IsAccepted, Refuses, by_reading, by_checking, by_form, IsTextFault}
 
 query_is : (p q : Query) → is_query p ≡ is_query q → p ≡ q
@@ -35,3 +37,6 @@ one_reason sql (unchecked f) not_built (by_checking a x) (by_form b y z) = let s
 one_reason sql not_built (unread w) (by_form a x z) (by_reading b y) = absurd (subst IsTextFault (verdict-one sql w (is_query _) b a) y)
 one_reason sql not_built (unchecked g) (by_form a x z) (by_checking b y) = let same = same_query sql _ _ a b in absurd (cc)
 one_reason sql not_built not_built (by_form a x z) (by_form b y w) = refl
+
+pub compiled_is_accepted : (sql : List ℕ) (job : Job) → Compiles sql job → IsAccepted sql
+compiled_is_accepted sql job h = (h.q, h.accepts)

@@ -3,7 +3,7 @@ use Rattle.std.proofs.Common.{◌≡◌, ℕ, Bool, true, false, ◌&&◌, List,
 use Rattle.std.proofs.lemmas.Bool.Decides.{nat_tests}
 use Rattle.std.specs.Prelude.{is_none, ◌==◌}
 use Rattle.query_meaning.specs.Tree.{Query}
-use Rattle.plan_lower.specs.Forms.{is_lowered}
+use Rattle.plan_lower.specs.Forms.{are_lowered_outs, is_lowered_filter, is_lowered}
 
 pub record IsUncut (q : Query) : Type 0 where
   pub order : q.order ≡ []
@@ -29,12 +29,12 @@ is_the_zero n h = grind (arith, nat_tests)
 pub lowered_is_uncut : (q : Query) → is_lowered q ≡ true → IsUncut q
 unfolding is_lowered
 lowered_is_uncut q h =
-    let a = both _ _ h in
-    let b = both _ _ a.1 in
-    let c = both _ _ b.1 in
-    let d = both _ _ c.1 in
-    let e = both _ _ d.1 in
-    let f = both _ _ e.1 in
+    let a = both (are_lowered_outs q.outs) _ h in
+    let b = both (is_lowered_filter q.filter) _ a.1 in
+    let c = both (length q.keys == 0) _ b.1 in
+    let d = both (is_none q.having) _ c.1 in
+    let e = both (length q.order == 0) _ d.1 in
+    let f = both (is_none q.take) (q.skip == 0) e.1 in
     record {
       order = is_the_empty q.order e.0;
       take = is_the_none q.take f.0;

@@ -5,3 +5,5 @@ mod Built
 mod OneBlock
 mod BlockEnds
 mod Headlines
+mod Counting
+mod Explaining

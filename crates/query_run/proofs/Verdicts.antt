@@ -1,6 +1,7 @@
 -- How a query may end on each verdict.
 use Rattle.std.proofs.Common.{◌≡◌, ℕ, Bool, List, [], ◌∷◌, map, Option, None, refl, ap, sym, subst, ◌∙◌, arith}
 use Rattle.std.proofs.lemmas.List.Sorted.{IsPermutation-refl}
+use Rattle.std.specs.Io.KnownBytes.{Appends}
 use Rattle.value_meaning.specs.Val.{Val}
 use Rattle.answer_meaning.specs.Made.{Output, Made}
 use Rattle.answer_meaning.specs.Answers.{IsAnswer}
@@ -8,10 +9,10 @@ use Rattle.query_meaning.specs.Tree.{Ex, Query}
 use Rattle.eval_meaning.specs.Passed.{passed}
 use Rattle.made_meaning.specs.MadeRows.{made, made_row, output_of}
 use Rattle.query_run.specs.Queries.{Accepts}
-use Rattle.query_run.specs.Headline.{falling, IsPrefix, AddsAnswer, Answers}
+use Rattle.query_run.specs.Headline.{falling, AddsAnswer, Answers}
 use Rattle.query_run.specs.Verdicts.{Verdict, no_query, no_such_file, no_block_file, bad_block, rows, unknown, Allows, Wrote, EndsAs}
 use Rattle.query_run.proofs.Forms.{IsUncut, lowered_is_uncut}
-use Rattle.query_run.proofs.Sink.{Writes, lines_of, Keeps-same, Appends-nothing}
+use Rattle.query_run.proofs.Sink.{Took, lines_of, Keeps-same, Appends-nothing}
 
 -- the outputs of the made rows are those of the rows that pass
 outputs_of : (q : Query) (rs : List Val) → map (output_of q.outs) rs ≡ map (λ (m : Made). m.output) (map (made_row q) rs)
@@ -37,7 +38,7 @@ answer_of q h rs =
     (subst (λ (os : List Output). IsAnswer [] 0 None (made q rs) os) (sym (outputs_of q (passed q rs))) (plain_answer (made q rs)))))
 
 -- lines of the rows that pass, in their order, are lines of an answer
-pub adds : (sql : List ℕ) (q : Query) → Accepts sql q → (rs : List Val) (status : ℕ) (old new : Option (List ℕ)) → Writes status old new (lines_of q rs) → AddsAnswer q rs status old new
+pub adds : (sql : List ℕ) (q : Query) → Accepts sql q → (rs : List Val) (status : ℕ) (old new : Option (List ℕ)) → Took status old new (lines_of q rs) → AddsAnswer q rs status old new
 adds sql q taken rs status old new w = record {
   outputs = map (output_of q.outs) (passed q rs);
   answer = answer_of q (lowered_is_uncut q taken.built) rs;

@@ -1,5 +1,5 @@
 -- What a query over a file owes.
-use Rattle.std.specs.Prelude.{◌≡◌, ℕ, Bool, List, ◌++◌, map, Option, Some}
+use Rattle.std.specs.Prelude.{◌≡◌, ℕ, Bool, List, map, Option, Some}
 use Rattle.std.specs.Io.KnownBytes.{Appends}
 use Rattle.snel_device.specs.Contents.{Contents}
 use Rattle.value_meaning.specs.Val.{Val}
@@ -9,10 +9,8 @@ use Rattle.answer_meaning.specs.Made.{Output}
 use Rattle.answer_meaning.specs.Answers.{IsAnswer}
 use Rattle.answer_meaning.specs.Lines.{print}
 use Rattle.made_meaning.specs.MadeRows.{made}
+use Rattle.block_lines.specs.Written.{IsPrefix}
 use Rattle.query_run.specs.Queries.{Accepts}
-
-abbrev pub IsPrefix : List ℕ → List ℕ → Type 0
-IsPrefix front all = (rest : List ℕ) × (all ≡ front ++ rest)
 
 -- which order keys fall
 abbrev pub falling : Query → List Bool

@@ -1,8 +1,15 @@
 //! A query over a file: from its text to its lines.
-ghost use Rattle.std.specs.Prelude.{◌≡◌, ℕ, List, IfOk, IsErrOf};
+ghost use Rattle.std.specs.Prelude.{◌≡◌, ℕ, List, true, map, IfOk, IsErrOf};
 ghost use Rattle.snel_device.specs.Causes.{HasCause, Rose};
 ghost use Rattle.value_meaning.specs.Val.{Val};
 ghost use Rattle.block_meaning.specs.Blocks.{IsDamaged};
+ghost use Rattle.query_meaning.specs.Tree.{Query as QueryTree};
+ghost use Rattle.eval_meaning.specs.Passed.{passed};
+ghost use Rattle.answer_meaning.specs.Lines.{print};
+ghost use Rattle.made_meaning.specs.MadeRows.{output_of};
+ghost use Rattle.program_meaning.specs.Simulation.{Simulates};
+ghost use Rattle.plan_lower.specs.Forms.{is_lowered};
+ghost use Rattle.block_lines.specs.Written.{Writes};
 ghost use Rattle.query_run.specs.Queries.{Accepts};
 ghost use Rattle.query_run.specs.Jobs.{Compiles};
 ghost use Rattle.query_run.specs.Statuses.{status_after, IsWriteOrMemory, IsBlockFault};
@@ -76,4 +83,33 @@ fn write_stored<'b, O: Out>(
         Err(BlockFault::OutOfMemory) => return Err(QueryFault::OutOfMemory),
     };
     write_block(alloc, job, &block, out)
+}
+
+// Writes the lines of a block.
+fn write_block<'b, O: Out>(
+    alloc: Global,
+    job: &'b Job,
+    block: &Block<'b>,
+    out: &mut O,
+) -> Result<QuerySum, QueryFault>
+    ensures written { (q : QueryTree) → Simulates job.now q → is_lowered q ≡ true → Writes result (O.holds out.old) (O.holds out.new) (print (map (output_of q.outs) (passed q block.now.1))) }
+    ensures sum { IfOk result (λ s. (q : QueryTree) → Simulates job.now q → Sums q block.now.1 s) }
+    ensures refused { IsWriteOrMemory result }
+    ensures fault { HasCause (O.faults out.old) (O.faults out.new) (IsErrOf result QueryFault.WriteFault) }
+{
+    block.know();
+    let mut frame = match Frame::new(alloc, job) {
+        Ok(frame) => frame,
+        Err(OutOfMemory) => return Err(QueryFault::OutOfMemory),
+    };
+    match write_lines(alloc, &mut frame, block, out) {
+        Ok(lines) => Ok(QuerySum {
+            lines,
+            read: 1,
+            skipped: 0,
+            ran: frame.into_tally(),
+        }),
+        Err(LinesFault::WriteFault) => Err(QueryFault::WriteFault),
+        Err(LinesFault::OutOfMemory) => Err(QueryFault::OutOfMemory),
+    }
 }
