@@ -1,7 +1,6 @@
 -- How a query ends once the bytes of the block are there.
-use Rattle.std.proofs.Common.{◌≡◌, ℕ, List, [], length, Option, Some, None, Result, Ok, Err, refl, sym, subst, arith}
+use Rattle.std.proofs.Common.{◌≡◌, ℕ, List, length, Option, Some, None, Result, Ok, Err, refl, sym, subst}
 use Rattle.std.specs.Prelude.{IsSomeAnd, IsErrOf}
-use Rattle.std.specs.Io.KnownBytes.{Keeps, Appends}
 use Rattle.snel_device.specs.Contents.{Contents}
 use Rattle.value_meaning.specs.Val.{Val}
 use Rattle.block_meaning.specs.Tables.{Table}
@@ -21,7 +20,7 @@ use Rattle.query_run.specs.Causes.{FindsInBlock, FindsInFile, FindsInFiles, Find
 use Rattle.query_run.specs.Faults.{SaysOfQuery, HasItsCause, IsQuiet, SaysOfText}
 use Rattle.query_run.specs.Loading.{HasBlock}
 use Rattle.query_run.proofs.Built.{not_both, one_accepted}
-use Rattle.query_run.proofs.Sink.{Took, took, lines_of, Keeps-same}
+use Rattle.query_run.proofs.Sink.{took, lines_of, Keeps-same}
 use Rattle.query_run.proofs.Verdicts.{adds, memory_allowed}
 use Rattle.query_run.proofs.OneBlock.{knows, one_entry}
 

@@ -1,5 +1,5 @@
 -- How explaining a text may end.
-use Rattle.std.proofs.Common.{◌≡◌, ◌⊎◌, inl, inr, ℕ, List, [], ◌++◌, take, drop, Option, refl, ap, sym, subst, ◌∙◌, arith, take-append-drop}
+use Rattle.std.proofs.Common.{◌≡◌, ◌⊎◌, inl, inr, ℕ, List, [], take, drop, Option, refl, sym, subst, ◌∙◌, arith, take-append-drop}
 use Rattle.std.proofs.lemmas.List.{append-nil}
 use Rattle.std.specs.Io.KnownBytes.{Appends}
 use Rattle.query_meaning.specs.Tree.{Query}
@@ -12,7 +12,7 @@ use Rattle.query_run.specs.Queries.{Accepts}
 use Rattle.query_run.specs.Jobs.{Compiles}
 use Rattle.query_run.specs.Statuses.{status_of}
 use Rattle.query_run.specs.Faults.{SaysOfText}
-use Rattle.query_run.specs.Explained.{AddsListing, EndsExplained}
+use Rattle.query_run.specs.Explained.{EndsExplained}
 use Rattle.query_run.proofs.Built.{one_accepted, not_both, compiled_is_accepted}
 use Rattle.query_run.proofs.Sink.{Keeps-same}
 
@@ -23,12 +23,14 @@ neither n done cut (inr e) = absurd (cut e)
 -- a text that isn't compiled: nothing was put
 pub not_compiled : (sql : List ℕ) (fault : QueryFault) (a : Option (List ℕ)) → SaysOfText sql fault → EndsExplained sql (status_of fault) a a
 not_compiled sql (Text f) a h = record {
+  only = refl;
   refused = λ r. refl;
   accepted = λ k. absurd (not_both sql _ k h);
   listed = λ q k e. neither 3 (λ z. omega arith) (λ z. omega arith) e;
   quiet = λ x y. Keeps-same a;
 }
 not_compiled sql OutOfMemory a h = record {
+  only = refl;
   refused = λ r. refl;
   accepted = λ k. refl;
   listed = λ q k e. neither 10 (λ z. omega arith) (λ z. omega arith) e;
@@ -47,6 +49,7 @@ module _ (sql : List ℕ) (job : Job) (compiles : Compiles sql job) (old new : O
   -- the whole listing was put
   pub whole_listing : Appends old new piece → EndsExplained sql 0 old new
   whole_listing h = record {
+    only = refl;
     refused = λ r. absurd (not_both sql r.0 (compiled_is_accepted sql job compiles) r.1);
     accepted = λ k. refl;
     listed = λ q accepts e. record {
@@ -63,6 +66,7 @@ module _ (sql : List ℕ) (job : Job) (compiles : Compiles sql job) (old new : O
   -- some of it was put
   pub cut_listing : (n : ℕ) → Appends old new (take n piece) → EndsExplained sql 9 old new
   cut_listing n h = record {
+    only = refl;
     refused = λ r. absurd (not_both sql r.0 (compiled_is_accepted sql job compiles) r.1);
     accepted = λ k. refl;
     listed = λ q accepts e. record {

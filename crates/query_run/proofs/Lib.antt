@@ -1,7 +1,7 @@
 mod Forms
 mod Sink
 mod Verdicts
-mod Built
+pub mod Built
 mod OneBlock
 mod BlockEnds
 mod Headlines

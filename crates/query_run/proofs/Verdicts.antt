@@ -1,5 +1,5 @@
 -- How a query may end on each verdict.
-use Rattle.std.proofs.Common.{◌≡◌, ℕ, Bool, List, [], ◌∷◌, map, Option, None, refl, ap, sym, subst, ◌∙◌, arith}
+use Rattle.std.proofs.Common.{◌≡◌, ℕ, Bool, List, [], ◌∷◌, map, Option, None, refl, ap, sym, subst}
 use Rattle.std.proofs.lemmas.List.Sorted.{IsPermutation-refl}
 use Rattle.std.specs.Io.KnownBytes.{Appends}
 use Rattle.value_meaning.specs.Val.{Val}
@@ -9,7 +9,7 @@ use Rattle.query_meaning.specs.Tree.{Ex, Query}
 use Rattle.eval_meaning.specs.Passed.{passed}
 use Rattle.made_meaning.specs.MadeRows.{made, made_row, output_of}
 use Rattle.query_run.specs.Queries.{Accepts}
-use Rattle.query_run.specs.Headline.{falling, AddsAnswer, Answers}
+use Rattle.query_run.specs.Headline.{falling, AddsAnswer}
 use Rattle.query_run.specs.Verdicts.{Verdict, no_query, no_such_file, no_block_file, bad_block, rows, unknown, Allows, Wrote, EndsAs}
 use Rattle.query_run.proofs.Forms.{IsUncut, lowered_is_uncut}
 use Rattle.query_run.proofs.Sink.{Took, lines_of, Keeps-same, Appends-nothing}

@@ -1,7 +1,6 @@
 -- Which verdict a text and the files give rise to: a line for each cause, in the order of refusals.
 use Rattle.std.specs.Prelude.{◌≡◌, ℕ, List, [], ◌∷◌, length, ⊤, Option, Some, None}
 use Rattle.snel_device.specs.Contents.{Contents}
-use Rattle.value_meaning.specs.Val.{Val}
 use Rattle.block_meaning.specs.Tables.{Table}
 use Rattle.block_meaning.specs.Blocks.{IsBlock, IsDamaged}
 use Rattle.file_meaning.specs.Files.{Entry, IsFile, bytes_at}

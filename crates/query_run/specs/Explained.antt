@@ -23,6 +23,7 @@ pub record AddsListing (q : Query) (status : ℕ) (old new : Option (List ℕ)) 
 
 -- A text was explained with this status, and with this in the sink.
 pub record EndsExplained (sql : List ℕ) (status : ℕ) (old new : Option (List ℕ)) : Type 0 where
+  pub only : IsAmong status (3 ∷ 9 ∷ 0 ∷ 10 ∷ [])
   pub refused : IsRefused sql → IsAmong status (3 ∷ 10 ∷ [])
   pub accepted : IsAccepted sql → IsAmong status (9 ∷ 0 ∷ 10 ∷ [])
   pub listed : (q : Query) → Accepts sql q → (status ≡ 0) ⊎ (status ≡ 9) → AddsListing q status old new
