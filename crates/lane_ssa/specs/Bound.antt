@@ -19,10 +19,10 @@ IsSymbolOf table (make m (literal v)) symbol = Unit {0}
 IsSymbolOf table (make m (of_one f a)) symbol = IsSymbolOfOne table f symbol
 IsSymbolOf table (make m (of_two f a b)) symbol = Unit {0}
 
--- one number for each instruction
 abbrev pub no_symbol : Option ℕ
 no_symbol = None
 
+-- There is one number for each instruction, and each is as asked.
 pub record IsBound (table : Table) (program : List Instr) (symbols : List (Option ℕ)) : Type 0 where
   pub long : length symbols ≡ length program
   pub symbol : (k : ℕ) → k < length program → IsSymbolOf table (slice_index_or program k all) (slice_index_or symbols k no_symbol)

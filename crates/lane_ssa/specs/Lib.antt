@@ -7,3 +7,4 @@ pub mod Counts
 pub mod Frames
 pub mod Bound
 pub mod ChunksOf
+pub mod Making

@@ -1,8 +1,6 @@
 -- What instructions and ends stand for.
-use Rattle.std.specs.Prelude.{ℕ, List, Option}
-use Rattle.query_meaning.specs.AggName.{AggName}
 use Rattle.snel_values.specs.View.{view}
-use Rattle.sql_tree.specs.Names.{op_view, what_view, agg_view}
+use Rattle.sql_tree.specs.Names.{op_view, what_view}
 use Rattle.program_meaning.specs.Instructions.{field, item, negation, asks, binary, row, literal, of_one, of_two, Instr, all, holding, make}
 use Rattle.program_meaning.specs.Jobs.{Ends}
 use Rattle.lane_ssa.specs.declared.instr.Instr.{Instr as InstrCode}

@@ -13,7 +13,9 @@ ghost use Rattle.lane_ssa.specs.ChunksOf.{rows_from, IsChunkOf};
 ghost use Rattle.lane_ssa.specs.Counts.{counted};
 ghost use Rattle.lane_ssa.specs.Frames.{state_at};
 
+use crate::bind::bind_all;
 use crate::job::Job;
+use crate::run::run_rows;
 use crate::tally::Tally;
 use block_file::{Block, Chunk};
 use ion_symtab::SymTab;
@@ -83,7 +85,7 @@ impl<'b> Frame<'b> {
         ensures chunks { self.new.chunks ≡ self.old.chunks }
         ensures kept { self.new.kept ≡ self.old.kept }
     {
-        let _ = table;
+        bind_all(self.job.instrs(), table, &mut self.symbols);
     }
 
     /// Runs the job over a chunk of the block that the frame is bound to, and counts the chunk and its rows that pass.
@@ -102,8 +104,16 @@ impl<'b> Frame<'b> {
         ensures job { self.new.job ≡ self.old.job }
         ensures symbols { self.new.symbols ≡ self.old.symbols }
     {
-        let _ = block;
-        let _ = chunk;
+        run_rows(
+            self.job,
+            &self.symbols,
+            block,
+            chunk,
+            &mut self.masks,
+            &mut self.values,
+        );
+        self.passed = self.masks[self.job.ends().keep as usize];
+        self.tally.count(self.passed.count());
     }
 
     /// The lanes of the last chunk whose rows passed, none before the first.

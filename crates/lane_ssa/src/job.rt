@@ -1,6 +1,6 @@
 ghost use Rattle.std.specs.Prelude.{◌≡◌, ◌<◌, ◌++◌, ◌∷◌, [], ℕ, List, map, length, IfOk, OnErr, true, false};
 ghost use Rattle.program_meaning.specs.Programs.{IsInstruction, IsProgram, mask_count, value_count, number_after, makes_mask};
-ghost use Rattle.program_meaning.specs.Jobs.{AreEnds};
+ghost use Rattle.program_meaning.specs.Jobs.{AreEnds, IsJob};
 ghost use Rattle.lane_ssa.specs.Views.{instr_view, ends_view};
 
 use crate::ends::Ends;
@@ -73,6 +73,7 @@ impl Builder {
         requires { AreEnds (mask_count self) (value_count self) (ends_view ends) }
         ensures program { result.program ≡ self }
         ensures ends { result.ends ≡ ends_view ends }
+        ensures job { IsJob result }
     {
         Job {
             instrs: self.instrs,

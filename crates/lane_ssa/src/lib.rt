@@ -5,11 +5,20 @@
 //! memory is taken when it is made, and running takes none.
 #![tactic(auto)]
 
+mod bind;
 mod ends;
 mod frame;
 mod instr;
 mod job;
+mod literal;
+mod make;
+mod operands;
+mod path;
+mod rows;
+mod run;
 mod tally;
+#[cfg(test)]
+mod tests;
 
 pub use ends::{EndAgg, EndAggs, EndOut, EndOuts, Ends, Registers};
 pub use frame::Frame;

@@ -1,0 +1,77 @@
+ghost use Rattle.std.specs.Prelude.{◌≡◌, ◌<◌, ◌≤◌, ℕ, All, map, length, vec_capacity};
+ghost use Rattle.block_file.specs.Chunks.{AreCellsOf};
+ghost use Rattle.program_meaning.specs.Programs.{IsProgram, mask_count, value_count};
+ghost use Rattle.program_meaning.specs.Registers.{after, HasRun};
+ghost use Rattle.lane_base.specs.Registers.{AreLegal};
+ghost use Rattle.lane_ssa.specs.Bound.{IsBound};
+ghost use Rattle.lane_ssa.specs.ChunksOf.{rows_from, IsChunkOf};
+ghost use Rattle.lane_ssa.specs.Frames.{registers_at};
+ghost use Rattle.lane_ssa.specs.Making.{lane_at, IsReadable};
+ghost use Rattle.lane_ssa.specs.Views.{instr_view};
+
+use crate::instr::Instr;
+use crate::job::Job;
+use crate::make::make;
+use crate::rows::{live_of, rows16};
+use block_file::{Block, Chunk};
+use ion_symtab::SymTab;
+use lane_base::{LaneMask, Lanes};
+
+/// Makes the registers of a program, on the rows of the live lanes.
+fn run<'b>(
+    instrs: &'b [Instr],
+    symbols: &[Option<u32>],
+    table: &SymTab<'b>,
+    live: LaneMask,
+    rows: &Lanes<'b>,
+    masks: &mut Vec<LaneMask>,
+    values: &mut Vec<Lanes<'b>>,
+)
+    requires program { IsProgram (map instr_view instrs.now) }
+    requires bound { IsBound table.now (map instr_view instrs.now) symbols.now }
+    requires readable { IsReadable table.now }
+    requires rows { AreLegal table.now rows.now }
+    requires mask_room { length instrs.now ≤ vec_capacity masks.old }
+    requires value_room { length instrs.now ≤ vec_capacity values.old }
+    ensures state { (i : ℕ) → i < 16 → registers_at table.now masks.new.items values.new.items i
+        ≡ after (lane_at table.now live.0 rows.now i) (map instr_view instrs.now) }
+    ensures legal { All (AreLegal table.now) values.new.items }
+    ensures mask_room { length instrs.now ≤ vec_capacity masks.new }
+    ensures value_room { length instrs.now ≤ vec_capacity values.new }
+{
+    masks.clear();
+    values.clear();
+    for k in 0..instrs.len() {
+        make(&instrs[k], symbols[k], table, live, rows, masks, values);
+    }
+}
+
+/// Makes the registers of a job on the rows of a chunk of the block.
+pub(crate) fn run_rows<'b>(
+    job: &'b Job,
+    symbols: &[Option<u32>],
+    block: &Block<'b>,
+    chunk: &Chunk<'b>,
+    masks: &mut Vec<LaneMask>,
+    values: &mut Vec<Lanes<'b>>,
+)
+    requires bound { IsBound block.now.0 job.now.program symbols.now }
+    requires chunk { IsChunkOf block.now.0 block.now.1 chunk.now }
+    requires mask_room { length job.now.program ≤ vec_capacity masks.old }
+    requires value_room { length job.now.program ≤ vec_capacity values.old }
+    ensures ran { (first : ℕ) → AreCellsOf block.now.0 (rows_from first block.now.1) chunk.now
+        → HasRun job.now.program (rows_from first block.now.1) (registers_at block.now.0 masks.new.items values.new.items) }
+    ensures legal { All (AreLegal block.now.0) values.new.items }
+    ensures masks { length masks.new.items ≡ mask_count job.now.program }
+    ensures values { length values.new.items ≡ value_count job.now.program }
+    ensures mask_room { length job.now.program ≤ vec_capacity masks.new }
+    ensures value_room { length job.now.program ≤ vec_capacity values.new }
+{
+    block.know();
+    let table = block.table();
+    table.know();
+    let _last = table.last();
+    let live = live_of(chunk);
+    let rows = rows16(chunk, live);
+    run(job.instrs(), symbols, table, live, &rows, masks, values);
+}
