@@ -1,5 +1,5 @@
 -- Texts that have grown piece by piece.
-use Rattle.std.proofs.Common.{◌≡◌, ◌∙◌, ℕ, List, ◌++◌, refl, sym, ap, append_assoc}
+use Rattle.std.proofs.Common.{◌≡◌, ◌∙◌, ℕ, List, ◌++◌, append_assoc}
 
 -- by two pieces, the first of them added before
 pub by_two : (old mid p q whole : List ℕ) → mid ≡ old ++ p → whole ≡ p ++ q → mid ++ q ≡ old ++ whole

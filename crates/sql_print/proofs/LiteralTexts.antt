@@ -1,5 +1,5 @@
 -- The texts of literals.
-use Rattle.std.proofs.Common.{◌≡◌, ℕ, ℤ, List, [], ◌∷◌, ◌++◌, append_assoc, append-nil}
+use Rattle.std.proofs.Common.{◌≡◌, ℕ, ℤ, List, [], ◌∷◌, ◌++◌, append-nil}
 use Rattle.std.specs.Prelude.{decimal, unsigned_abs}
 use Rattle.value_meaning.specs.Val as val
 use Rattle.time_meaning.specs.Printed.{time_text}

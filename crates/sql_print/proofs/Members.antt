@@ -1,5 +1,5 @@
 -- The members of lists: smaller than their list, and formed where all are.
-use Rattle.std.proofs.Common.{◌≡◌, ℕ, zero, suc, ◌+◌, ◌<◌, List, [], ◌∷◌, Some, refl, ap, arith, sym}
+use Rattle.std.proofs.Common.{◌≡◌, ℕ, zero, suc, ◌+◌, ◌<◌, List, [], ◌∷◌, Some, ap, arith, sym}
 use Rattle.std.specs.Prelude.{slice_get, unwrap_or, All, Option, map}
 use Rattle.std.proofs.lemmas.List.Elements.{All-head, All-tail}
 use Rattle.query_meaning.specs.Tree.{Ex, size, exs, exs_size, arms, arms_size}

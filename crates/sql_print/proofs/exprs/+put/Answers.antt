@@ -1,6 +1,6 @@
 use Rattle.std.proofs.Common.{◌≡◌, ◌∙◌, ℕ, List, [], ◌++◌, ap, sym, arith}
 use Rattle.std.specs.Prelude.{codes}
-use Rattle.query_meaning.specs.Tree.{exs, arms, neg, no, bin, is, member, between, matching, choice, cast, call, trunc, extract, shift, agg}
+use Rattle.query_meaning.specs.Tree.{exs, arms, bin, is, member, between, matching, choice, cast, call, trunc, extract, shift, agg}
 use Rattle.query_meaning.specs.Words.{mark_text, function_text, part_text, cast_text}
 use Rattle.sql_tree.specs.Names.{op_view, what_view, how_view, to_view, func_view, part_view, agg_view}
 use Rattle.sql_tree.specs.View.{view, arm_view}
@@ -9,7 +9,7 @@ use Rattle.print_meaning.specs.Print.{op_mark, what_mark, func_word, agg_word}
 use Rattle.print_meaning.specs.Texts.{text, list_text, arms_text, between_text}
 use Rattle.print_meaning.proofs.PrintedTexts.{bin_text, is_text, member_text, between_three, case_text, cast_call_text, call_text, trunc_text, extract_text, shift_text, agg_text}
 use Rattle.print_meaning.proofs.PrintedLists.{joins_one, joins_all, lists_one, lists_all, list_is, arms_are, arm_text}
-use Rattle.sql_print.specs.Matches.{before} 
+use Rattle.sql_print.specs.Matches.{before}
 use Rattle.sql_print.specs.Matches.{between as between_of}
 use Rattle.sql_print.proofs.MatchTexts.{matching_text}
 use Rattle.sql_print.proofs.Grown.{by_two, by_three, by_four}
@@ -67,9 +67,9 @@ pub put_between-returns : goal.put_between-returns
 put_between-returns t c =
     let row = c.args.row.now in
     let e = by_three c.args.text.now c.put_within.new.text c.put_within-2.new.text
-        (codes "(" ++ (text row c.args.of.now ++ codes " BETWEEN ")) ([] ++ (text row c.args.low.now ++ codes " AND ")) ([] ++ (text row c.args.high.now ++ codes ")"))
-        (text row (between c.args.of.now c.args.low.now c.args.high.now))
-        c.in_ok-put_within.ensures c.in_ok-put_within-2.ensures (between_three row c.args.of.now c.args.low.now c.args.high.now) in
+    (codes "(" ++ (text row c.args.of.now ++ codes " BETWEEN ")) ([] ++ (text row c.args.low.now ++ codes " AND ")) ([] ++ (text row c.args.high.now ++ codes ")"))
+    (text row (between c.args.of.now c.args.low.now c.args.high.now))
+    c.in_ok-put_within.ensures c.in_ok-put_within-2.ensures (between_three row c.args.of.now c.args.low.now c.args.high.now) in
     rw (← e) c.put_within-3.ensures
 
 pub put_is-returns : goal.put_is-returns
@@ -78,18 +78,18 @@ put_is-returns t c =
     let what = what_view c.args.what in
     let second : c.put.new.text ≡ c.put_within.new.text ++ mark_text (what_mark what) = c.in_ok-put.ensures ∙ ap (λ (z : List ℕ). c.put_within.new.text ++ z) c.what_word.ensures in
     let e = by_three c.args.text.now c.put_within.new.text c.put.new.text
-        (codes "(" ++ (text row c.args.of.now ++ codes " IS ")) (mark_text (what_mark what)) (codes ")")
-        (text row (is what c.args.of.now))
-        c.in_ok-put_within.ensures second (is_text row what c.args.of.now) in
+    (codes "(" ++ (text row c.args.of.now ++ codes " IS ")) (mark_text (what_mark what)) (codes ")")
+    (text row (is what c.args.of.now))
+    c.in_ok-put_within.ensures second (is_text row what c.args.of.now) in
     rw (← e) c.put-2.ensures
 
 pub put_in-returns : goal.put_in-returns
 put_in-returns t c =
     let row = c.args.row.now in
     let e = by_three c.args.text.now c.put_within.new.text c.put_exprs.new.text
-        (codes "(" ++ (text row c.args.of.now ++ codes " IN (")) (list_text row c.args.list.now) (codes "))")
-        (text row (member c.args.of.now (exs c.args.list.now)))
-        c.in_ok-put_within.ensures c.in_ok-put_exprs.ensures (member_text row c.args.of.now c.args.list.now) in
+    (codes "(" ++ (text row c.args.of.now ++ codes " IN (")) (list_text row c.args.list.now) (codes "))")
+    (text row (member c.args.of.now (exs c.args.list.now)))
+    c.in_ok-put_within.ensures c.in_ok-put_exprs.ensures (member_text row c.args.of.now c.args.list.now) in
     rw (← e) c.put.ensures
 
 pub put_match-returns : goal.put_match-returns
@@ -98,21 +98,21 @@ put_match-returns t c =
     let how = how_view c.args.how in
     let inner = text row c.args.of.now in
     let first : c.put_within.new.text ≡ c.args.text.now ++ (before how ++ (inner ++ between_of how)) =
-        c.in_ok-put_within.ensures ∙ (λ i. c.args.text.now ++ (c.match_before.ensures i ++ (inner ++ c.match_between.ensures i))) in
+    c.in_ok-put_within.ensures ∙ (λ i. c.args.text.now ++ (c.match_before.ensures i ++ (inner ++ c.match_between.ensures i))) in
     let second : c.put_string.new.text ≡ c.put_within.new.text ++ in_quotes 39 c.args.matched.now = c.in_ok-put_string.ensures ∙ ap (λ (z : List ℕ). c.put_within.new.text ++ in_quotes 39 z) c.as_str.ensures in
     let e = by_three c.args.text.now c.put_within.new.text c.put_string.new.text
-        (before how ++ (inner ++ between_of how)) (in_quotes 39 c.args.matched.now) (codes ")")
-        (text row (matching how c.args.of.now c.args.matched.now))
-        first second (matching_text row how c.args.of.now c.args.matched.now) in
+    (before how ++ (inner ++ between_of how)) (in_quotes 39 c.args.matched.now) (codes ")")
+    (text row (matching how c.args.of.now c.args.matched.now))
+    first second (matching_text row how c.args.of.now c.args.matched.now) in
     rw (← e) c.put.ensures
 
 pub put_case-returns : goal.put_case-returns
 put_case-returns t c =
     let row = c.args.row.now in
     let e = by_three c.args.text.now c.put.new.text c.put_arms.new.text
-        (codes "(CASE") (arms_text row c.args.arms.now) (codes " ELSE " ++ (text row c.args.other.now ++ codes " END)"))
-        (text row (choice (arms c.args.arms.now) c.args.other.now))
-        c.in_ok-put.ensures c.in_ok-put_arms.ensures (case_text row c.args.arms.now c.args.other.now) in
+    (codes "(CASE") (arms_text row c.args.arms.now) (codes " ELSE " ++ (text row c.args.other.now ++ codes " END)"))
+    (text row (choice (arms c.args.arms.now) c.args.other.now))
+    c.in_ok-put.ensures c.in_ok-put_arms.ensures (case_text row c.args.arms.now c.args.other.now) in
     rw (← e) c.put_within.ensures
 
 pub put_cast-returns : goal.put_cast-returns
@@ -121,9 +121,9 @@ put_cast-returns t c =
     let to = to_view c.args.to in
     let second : c.put.new.text ≡ c.put_within.new.text ++ cast_text to = c.in_ok-put.ensures ∙ ap (λ (z : List ℕ). c.put_within.new.text ++ z) c.cast_word.ensures in
     let e = by_three c.args.text.now c.put_within.new.text c.put.new.text
-        (codes "CAST(" ++ (text row c.args.of.now ++ codes " AS ")) (cast_text to) (codes ")")
-        (text row (cast to c.args.of.now))
-        c.in_ok-put_within.ensures second (cast_call_text row to c.args.of.now) in
+    (codes "CAST(" ++ (text row c.args.of.now ++ codes " AS ")) (cast_text to) (codes ")")
+    (text row (cast to c.args.of.now))
+    c.in_ok-put_within.ensures second (cast_call_text row to c.args.of.now) in
     rw (← e) c.put-2.ensures
 
 pub put_call-returns : goal.put_call-returns
@@ -132,9 +132,9 @@ put_call-returns t c =
     let name = func_view c.args.name in
     let first : c.put.new.text ≡ c.args.text.now ++ function_text (func_word name) = c.in_ok-put.ensures ∙ ap (λ (z : List ℕ). c.args.text.now ++ z) c.func_name.ensures in
     let e = by_four c.args.text.now c.put.new.text c.put-2.new.text c.put_exprs.new.text
-        (function_text (func_word name)) (codes "(") (list_text row c.args.args.now) (codes ")")
-        (text row (call name (exs c.args.args.now)))
-        first c.in_ok-put-2.ensures c.in_ok-put_exprs.ensures (call_text row name c.args.args.now) in
+    (function_text (func_word name)) (codes "(") (list_text row c.args.args.now) (codes ")")
+    (text row (call name (exs c.args.args.now)))
+    first c.in_ok-put-2.ensures c.in_ok-put_exprs.ensures (call_text row name c.args.args.now) in
     rw (← e) c.put-3.ensures
 
 pub put_trunc-returns : goal.put_trunc-returns
@@ -143,9 +143,9 @@ put_trunc-returns t c =
     let part = part_view c.args.part in
     let second : c.put-2.new.text ≡ c.put.new.text ++ part_text part = c.in_ok-put-2.ensures ∙ ap (λ (z : List ℕ). c.put.new.text ++ z) c.part_name.ensures in
     let e = by_three c.args.text.now c.put.new.text c.put-2.new.text
-        (codes "DATE_TRUNC(") (part_text part) (codes ", " ++ (text row c.args.of.now ++ codes ")"))
-        (text row (trunc part c.args.of.now))
-        c.in_ok-put.ensures second (trunc_text row part c.args.of.now) in
+    (codes "DATE_TRUNC(") (part_text part) (codes ", " ++ (text row c.args.of.now ++ codes ")"))
+    (text row (trunc part c.args.of.now))
+    c.in_ok-put.ensures second (trunc_text row part c.args.of.now) in
     rw (← e) c.put_within.ensures
 
 pub put_extract-returns : goal.put_extract-returns
@@ -154,9 +154,9 @@ put_extract-returns t c =
     let part = part_view c.args.part in
     let second : c.put-2.new.text ≡ c.put.new.text ++ part_text part = c.in_ok-put-2.ensures ∙ ap (λ (z : List ℕ). c.put.new.text ++ z) c.part_name.ensures in
     let e = by_three c.args.text.now c.put.new.text c.put-2.new.text
-        (codes "EXTRACT(") (part_text part) (codes " FROM " ++ (text row c.args.of.now ++ codes ")"))
-        (text row (extract part c.args.of.now))
-        c.in_ok-put.ensures second (extract_text row part c.args.of.now) in
+    (codes "EXTRACT(") (part_text part) (codes " FROM " ++ (text row c.args.of.now ++ codes ")"))
+    (text row (extract part c.args.of.now))
+    c.in_ok-put.ensures second (extract_text row part c.args.of.now) in
     rw (← e) c.put_within.ensures
 
 pub put_shift-returns : goal.put_shift-returns
@@ -165,7 +165,7 @@ put_shift-returns t c =
     let part = part_view c.args.part in
     let second : c.put-2.new.text ≡ c.put.new.text ++ part_text part = c.in_ok-put-2.ensures ∙ ap (λ (z : List ℕ). c.put.new.text ++ z) c.part_name.ensures in
     let e = by_four c.args.text.now c.put.new.text c.put-2.new.text c.put_within.new.text
-        (codes "DATE_ADD(") (part_text part) (codes ", " ++ (text row c.args.count.now ++ codes ", ")) ([] ++ (text row c.args.of.now ++ codes ")"))
-        (text row (shift part c.args.count.now c.args.of.now))
-        c.in_ok-put.ensures second c.in_ok-put_within.ensures (shift_text row part c.args.count.now c.args.of.now) in
+    (codes "DATE_ADD(") (part_text part) (codes ", " ++ (text row c.args.count.now ++ codes ", ")) ([] ++ (text row c.args.of.now ++ codes ")"))
+    (text row (shift part c.args.count.now c.args.of.now))
+    c.in_ok-put.ensures second c.in_ok-put_within.ensures (shift_text row part c.args.count.now c.args.of.now) in
     rw (← e) c.put_within-2.ensures

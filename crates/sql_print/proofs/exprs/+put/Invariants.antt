@@ -1,4 +1,4 @@
-use Rattle.std.proofs.Common.{◌≡◌, ◌+◌, ◌*◌}
+use Rattle.std.proofs.Common.{◌+◌, ◌*◌}
 use Rattle.query_meaning.specs.Tree.{size, exs, exs_size, arms, arms_size}
 use Rattle.sql_tree.specs.View.{view}
 use Rattle.print_meaning.specs.Texts.{text}

@@ -1,4 +1,4 @@
-use Rattle.std.proofs.Common.{◌≡◌, ◌∙◌, ℕ, List, [], ◌∷◌, ◌++◌, ap}
+use Rattle.std.proofs.Common.{◌≡◌, ◌∙◌, ℕ, [], ◌∷◌, ◌++◌, ap}
 use Rattle.std.specs.Prelude.{codes, decimal}
 use Rattle.query_meaning.specs.Tree.{Step, name, at}
 use Rattle.sql_tree.specs.View.{step_view}

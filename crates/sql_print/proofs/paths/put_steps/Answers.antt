@@ -1,4 +1,4 @@
-use Rattle.std.proofs.Common.{◌≡◌, ◌∙◌, ℕ, List, ◌++◌, ap, sym, map, arith, length}
+use Rattle.std.proofs.Common.{◌∙◌, ℕ, List, ◌++◌, ap, sym, map, arith}
 use Rattle.std.proofs.lemmas.List.{length-map}
 use Rattle.sql_tree.specs.View.{step_view}
 use Rattle.print_meaning.proofs.PrintedLists.{joins_one, joins_all, steps_is, step_text}

@@ -1,4 +1,4 @@
-use Rattle.std.proofs.Common.{◌∙◌, ℕ, List, [], ◌++◌, codes, ap}
+use Rattle.std.proofs.Common.{◌∙◌, ℕ, List, ◌++◌, codes, ap}
 use Rattle.print_meaning.specs.Pieces.{in_quotes}
 use Rattle.print_meaning.specs.Texts.{outs_text, alias_text}
 use Rattle.sql_tree.specs.Queries.{query_view}

@@ -1,0 +1,5 @@
+pub mod Forms
+pub mod Emitting
+pub mod Listing
+pub mod Ends
+pub mod Constants

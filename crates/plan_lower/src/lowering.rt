@@ -1,0 +1,149 @@
+//! From accepted queries to jobs.
+ghost use Rattle.std.specs.Prelude.{◌≡◌, ◌<◌, IfOk, IfSome, All, length, slice_get, Some, true};
+ghost use Rattle.std.specs.Option.{option_map};
+ghost use Rattle.std.specs.List.{list_all};
+ghost use Rattle.query_meaning.specs.WellFormed.{IsFormed, IsOutput, AreOutputs, IsWellFormed};
+ghost use Rattle.check_meaning.specs.Names as named;
+ghost use Rattle.check_meaning.specs.Places.{output_exs};
+ghost use Rattle.program_meaning.specs.Programs.{mask_count};
+ghost use Rattle.program_meaning.specs.Simulation.{Simulates};
+ghost use Rattle.program_meaning.specs.Simulation as simulation;
+ghost use Rattle.sql_tree.specs.View.{view};
+ghost use Rattle.sql_tree.specs.Parts.{item_view};
+ghost use Rattle.sql_tree.specs.Queries.{outs_view};
+ghost use Rattle.plan_lower.specs.Forms.{is_lowered_output, are_lowered_outs, is_lowered_filter, is_lowered};
+ghost use Rattle.plan_lower.specs.Emitting.{Emits, EmitsAll, Keeps};
+ghost use Rattle.plan_lower.specs.Ends.{exs_of, names_of, registers_of, plain_ends};
+ghost use Rattle.lane_ssa.specs.Views.{ends_view};
+
+use crate::emitting::emit_expr;
+use lane_ssa::{Builder, EndAggs, EndOut, EndOuts, Ends, Instr, Job, Registers};
+use query_check::{Checked, Names};
+use snel_values::{OutOfMemory, Text};
+use sql_tree::{Expr, Item, OutItems, Outputs};
+use std::alloc::Global;
+
+/// Adds the instructions of WHERE, if it stands; the mask of the lanes that pass.
+fn emit_filter(
+    alloc: Global,
+    builder: &mut Builder,
+    filter: &Option<Expr>,
+    mask: u32,
+) -> Result<u32, OutOfMemory>
+    requires mask { mask < mask_count builder.old }
+    requires lowered { is_lowered_filter (option_map view filter.now) ≡ true }
+    requires formed { IfSome (option_map view filter.now) IsFormed }
+    ensures { IfOk result (λ k. Keeps builder.old builder.new (option_map view filter.now) mask k) }
+{
+    match filter {
+        None => Ok(mask),
+        Some(test) => {
+            let of = emit_expr(alloc, builder, test, mask)?;
+            builder.put(Instr::True { mask, of })
+        }
+    }
+}
+
+/// The output at a place, counted from 0.
+fn item_at(items: &OutItems, at: usize) -> &Item
+    requires { at < length items.now }
+    ensures { slice_get items.now at ≡ Some (item_view result.now) }
+{
+    match items.get(at) {
+        Some(item) => item,
+        None => unreachable!(),
+    }
+}
+
+/// The name at a place, counted from 0.
+fn name_at(names: &Names, at: usize) -> &Text
+    requires { at < length names.now }
+    ensures { slice_get names.now at ≡ Some result.now }
+{
+    match names.get(at) {
+        Some(name) => name,
+        None => unreachable!(),
+    }
+}
+
+/// Adds the instructions of outputs under a mask; their names and registers.
+fn emit_items(
+    alloc: Global,
+    builder: &mut Builder,
+    names: &Names,
+    items: &OutItems,
+    mask: u32,
+) -> Result<EndOuts, OutOfMemory>
+    requires mask { mask < mask_count builder.old }
+    requires names { length names.now ≡ length items.now }
+    requires lowered { list_all is_lowered_output items.now ≡ true }
+    requires formed { All IsOutput items.now }
+    ensures names { IfOk result (λ outs. names_of outs ≡ names.now) }
+    ensures emitted { IfOk result (λ outs. EmitsAll builder.old builder.new (exs_of items.now) mask (registers_of outs)) }
+{
+    let mut outs = EndOuts::new(alloc);
+    for at in 0..items.len() {
+        let register = emit_expr(alloc, builder, &item_at(items, at).expr, mask)?;
+        let name = name_at(names, at).copy(alloc)?;
+        outs.push(EndOut { name, register })?;
+    }
+    Ok(outs)
+}
+
+/// The same of all outputs of a query; `*` has none.
+fn emit_outs(
+    alloc: Global,
+    builder: &mut Builder,
+    names: &Names,
+    outputs: &Outputs,
+    mask: u32,
+) -> Result<EndOuts, OutOfMemory>
+    requires mask { mask < mask_count builder.old }
+    requires names { names.now ≡ named.names (outs_view outputs.now) }
+    requires lowered { are_lowered_outs (outs_view outputs.now) ≡ true }
+    requires formed { AreOutputs (outs_view outputs.now) }
+    ensures names { IfOk result (λ outs. names_of outs ≡ names.now) }
+    ensures emitted { IfOk result (λ outs. EmitsAll builder.old builder.new (output_exs (outs_view outputs.now)) mask (registers_of outs)) }
+{
+    match outputs {
+        Outputs::Star => Ok(EndOuts::new(alloc)),
+        Outputs::Named(items) => emit_items(alloc, builder, names, items, mask),
+    }
+}
+
+fn is_star(outputs: &Outputs) -> bool
+    ensures { result ≡ simulation.is_star (outs_view outputs.now) }
+{
+    matches!(outputs, Outputs::Star)
+}
+
+/// The ends of a job without groups and sort keys.
+fn plain_ends(alloc: Global, keep: u32, star: bool, outs: EndOuts) -> Ends
+    ensures { ends_view result ≡ plain_ends keep star outs }
+{
+    Ends {
+        keep,
+        star,
+        grouped: false,
+        outs,
+        sorts: Registers::new(alloc),
+        groups: Registers::new(alloc),
+        aggs: EndAggs::new(alloc),
+    }
+}
+
+/// The job of an accepted query of the form that [`is_lowered`](crate::is_lowered) tells. Its program makes the mask of all
+/// rows, then what WHERE asks and the mask of the rows that pass, and then each output under that mask.
+pub fn lower(alloc: Global, checked: &Checked) -> Result<Job, OutOfMemory>
+    requires lowered { is_lowered checked.now ≡ true }
+    requires formed { IsWellFormed checked.now }
+    ensures { IfOk result (λ j. Simulates j checked.now) }
+{
+    let query = checked.query();
+    let mut builder = Builder::new(alloc);
+    let all = builder.put(Instr::All)?;
+    let keep = emit_filter(alloc, &mut builder, &query.filter, all)?;
+    let outs = emit_outs(alloc, &mut builder, checked.names(), &query.outputs, keep)?;
+    let star = is_star(&query.outputs);
+    Ok(builder.finish(plain_ends(alloc, keep, star, outs)))
+}

@@ -1,0 +1,106 @@
+//! Pieces of the text of a listing. Each is added at the end; for want of memory some of it may stand there.
+ghost use Rattle.std.specs.Prelude.{◌≡◌, ◌++◌, OnOk};
+ghost use Rattle.std.specs.Fmt.{decimal};
+ghost use Rattle.sql_tree.specs.Names.{op_view, what_view, agg_view};
+ghost use Rattle.plan_lower.specs.Listing as spec;
+
+use agg_laws::AggName;
+use itoa::Buffer;
+use snel_values::{BinOp, Bytes, IsWhat, OutOfMemory};
+
+pub(crate) fn put(text: &mut Bytes, piece: &str) -> Result<(), OutOfMemory>
+    ensures { OnOk result (text.new ≡ text.old ++ piece.now) }
+{
+    text.push_all(piece.as_bytes())
+}
+
+pub(crate) fn put_digits(text: &mut Bytes, number: u64) -> Result<(), OutOfMemory>
+    ensures { OnOk result (text.new ≡ text.old ++ decimal number) }
+{
+    let mut digits = Buffer::new();
+    put(text, digits.format(number))
+}
+
+/// The name of a mask register.
+pub(crate) fn put_mask(text: &mut Bytes, number: u64) -> Result<(), OutOfMemory>
+    ensures { OnOk result (text.new ≡ text.old ++ spec.mask_name number) }
+{
+    put(text, "m")?;
+    put_digits(text, number)
+}
+
+/// The name of a value register.
+pub(crate) fn put_value(text: &mut Bytes, number: u64) -> Result<(), OutOfMemory>
+    ensures { OnOk result (text.new ≡ text.old ++ spec.value_name number) }
+{
+    put(text, "r")?;
+    put_digits(text, number)
+}
+
+/// A value register behind a space.
+pub(crate) fn put_operand(text: &mut Bytes, register: u32) -> Result<(), OutOfMemory>
+    ensures { OnOk result (text.new ≡ text.old ++ spec.operand_text register) }
+{
+    put(text, " ")?;
+    put_value(text, u64::from(register))
+}
+
+/// A word and the mask under which a value is made.
+pub(crate) fn put_under(text: &mut Bytes, word: &str, mask: u32) -> Result<(), OutOfMemory>
+    ensures { OnOk result (text.new ≡ text.old ++ spec.under_text word.now mask) }
+{
+    put(text, word)?;
+    put(text, " ")?;
+    put_mask(text, u64::from(mask))
+}
+
+#[tactic(auto, unfolding(crate::specs::Listing::op_text))]
+pub(crate) fn op_word(op: BinOp) -> &'static str
+    ensures { result.now ≡ spec.op_text (op_view op) }
+{
+    match op {
+        BinOp::Add => "add",
+        BinOp::Sub => "sub",
+        BinOp::Mul => "mul",
+        BinOp::Div => "div",
+        BinOp::Rem => "rem",
+        BinOp::Eq => "eq",
+        BinOp::Ne => "ne",
+        BinOp::Lt => "lt",
+        BinOp::Le => "le",
+        BinOp::Gt => "gt",
+        BinOp::Ge => "ge",
+        BinOp::And => "and",
+        BinOp::Or => "or",
+    }
+}
+
+#[tactic(auto, unfolding(crate::specs::Listing::what_text))]
+pub(crate) fn what_word(what: IsWhat) -> &'static str
+    ensures { result.now ≡ spec.what_text (what_view what) }
+{
+    match what {
+        IsWhat::Null => "null",
+        IsWhat::Missing => "missing",
+        IsWhat::True => "true",
+        IsWhat::False => "false",
+    }
+}
+
+#[tactic(auto, unfolding(crate::specs::Listing::agg_text))]
+pub(crate) fn agg_word(name: AggName) -> &'static str
+    ensures { result.now ≡ spec.agg_text (agg_view name) }
+{
+    match name {
+        AggName::CountAll => "countall",
+        AggName::Count => "count",
+        AggName::Sum => "sum",
+        AggName::Min => "min",
+        AggName::Max => "max",
+        AggName::Avg => "avg",
+        AggName::Earliest => "earliest",
+        AggName::Latest => "latest",
+        AggName::BoolAnd => "booland",
+        AggName::BoolOr => "boolor",
+    }
+}
