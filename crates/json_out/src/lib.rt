@@ -12,6 +12,10 @@ mod values;
 
 pub use lines::{append_row, row_line};
 pub use maker::LineMaker;
+pub use numbers::put_number;
+pub use texts::{put_quoted, put_quoted_bytes};
+pub use times::put_quoted_time;
+pub use values::put_value;
 
 #[cfg(test)]
 mod tests;

@@ -67,11 +67,18 @@ fn put_escaped(into: &mut Bytes, text: &[u8]) -> Result<(), OutOfMemory>
     into.push_all(&text[from..])
 }
 
-/// Adds the text as a string, in quotes.
-pub(crate) fn put_quoted(into: &mut Bytes, text: &str) -> Result<(), OutOfMemory>
+/// Adds the bytes of a text as a string, in quotes.
+pub fn put_quoted_bytes(into: &mut Bytes, text: &[u8]) -> Result<(), OutOfMemory>
     ensures { OnOk result (into.new ≡ into.old ++ quoted text.now) }
 {
     into.push_all(b"\"")?;
-    put_escaped(into, text.as_bytes())?;
+    put_escaped(into, text)?;
     into.push_all(b"\"")
+}
+
+/// Adds the text as a string, in quotes.
+pub fn put_quoted(into: &mut Bytes, text: &str) -> Result<(), OutOfMemory>
+    ensures { OnOk result (into.new ≡ into.old ++ quoted text.now) }
+{
+    put_quoted_bytes(into, text.as_bytes())
 }

@@ -6,7 +6,7 @@ use snel_values::{Bytes, OutOfMemory};
 use time_print::put_time;
 
 /// Adds the text of the time, in quotes.
-pub(crate) fn put_quoted_time(into: &mut Bytes, time: i64) -> Result<(), OutOfMemory>
+pub fn put_quoted_time(into: &mut Bytes, time: i64) -> Result<(), OutOfMemory>
     requires { IsTime time }
     ensures { OnOk result (into.new ≡ into.old ++ 34 ∷ (time_text time ++ 34 ∷ [])) }
 {

@@ -14,11 +14,7 @@ use snel_values::{Bytes, OutOfMemory};
 
 /// Adds the text of the cell's value.
 #[cycle(values)]
-pub(crate) fn put_value(
-    into: &mut Bytes,
-    table: &SymTab<'_>,
-    cell: &Cell<'_>,
-) -> Result<(), OutOfMemory>
+pub fn put_value(into: &mut Bytes, table: &SymTab<'_>, cell: &Cell<'_>) -> Result<(), OutOfMemory>
     requires { Fits table.now cell.now }
     ensures { OnOk result (into.new ≡ into.old ++ value_text (shown table.now cell.now)) }
 {

@@ -78,6 +78,13 @@ impl<'b> Frame<'b> {
         })
     }
 
+    /// The job.
+    pub fn job(&self) -> &'b Job
+        ensures { result.now ≡ self.now.job }
+    {
+        self.job
+    }
+
     /// Looks up the names that the job asks for in the table of the block whose chunks are run next.
     pub fn bind(&mut self, table: &SymTab<'b>)
         ensures bound { IsBound table.now self.new.job.program self.new.symbols }

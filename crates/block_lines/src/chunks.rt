@@ -1,0 +1,57 @@
+//! The lines of a chunk of rows.
+
+ghost use Rattle.std.specs.Prelude.{◌≡◌, ◌<◌, ◌%◌, ◌++◌, length, OnOk, IfOk};
+ghost use Rattle.std.specs.List.{filter};
+ghost use Rattle.answer_meaning.specs.Lines.{print};
+ghost use Rattle.lane_ssa.specs.Bound.{IsBound};
+ghost use Rattle.lane_ssa.specs.ChunksOf.{rows_from};
+ghost use Rattle.lane_ssa.specs.Counts.{counted};
+ghost use Rattle.block_lines.specs.Ran.{HasRunOver};
+ghost use Rattle.block_lines.specs.RowLines.{keeps, job_outputs};
+
+use crate::lines::append_line;
+use block_file::Block;
+use lane_ssa::Frame;
+use snel_values::{Bytes, OutOfMemory};
+
+/// Adds the lines of the rows that passed in the chunk from `first` on that the frame ran over.
+fn append_lanes<'b>(
+    into: &mut Bytes,
+    frame: &Frame<'b>,
+    block: &Block<'b>,
+    first: u32,
+) -> Result<(), OutOfMemory>
+    requires ran { HasRunOver block.now.0 (rows_from first block.now.1) frame.now }
+    ensures { OnOk result (into.new ≡ into.old ++ print (job_outputs frame.now.job (rows_from first block.now.1))) }
+{
+    let kept = frame.kept();
+    for lane in 0..16u32 {
+        if kept.has(lane) {
+            append_line(into, frame, block, first, lane)?;
+        }
+    }
+    Ok(())
+}
+
+/// Runs the chunk from `first` on, adds the lines of its rows that pass, and says how many they are.
+pub(crate) fn append_chunk<'b>(
+    into: &mut Bytes,
+    frame: &mut Frame<'b>,
+    block: &Block<'b>,
+    first: u32,
+) -> Result<u32, OutOfMemory>
+    requires bound { IsBound block.now.0 frame.old.job.program frame.old.symbols }
+    requires within { first < length block.now.1 }
+    requires whole { first % 16 ≡ 0 }
+    ensures text { OnOk result (into.new ≡ into.old ++ print (job_outputs frame.old.job (rows_from first block.now.1))) }
+    ensures lines { IfOk result (λ n. n ≡ length (filter (keeps frame.old.job) (rows_from first block.now.1))) }
+    ensures chunks { frame.new.chunks ≡ counted frame.old.chunks 1 }
+    ensures kept { frame.new.kept ≡ counted frame.old.kept (length (filter (keeps frame.old.job) (rows_from first block.now.1))) }
+    ensures job { frame.new.job ≡ frame.old.job }
+    ensures symbols { frame.new.symbols ≡ frame.old.symbols }
+{
+    let chunk = block.chunk(first);
+    frame.run_chunk(block, &chunk);
+    append_lanes(into, frame, block, first)?;
+    Ok(frame.kept().count())
+}

@@ -1,0 +1,304 @@
+ghost use Rattle.std.specs.Prelude.{◌≡◌, ◌<◌, ◌+◌, ◌∷◌, [], true, false, IfOk};
+ghost use Rattle.program_meaning.specs.Programs.{IsInstruction, makes_mask, mask_count, value_count};
+ghost use Rattle.program_meaning.specs.Jobs.{AreEnds};
+ghost use Rattle.lane_ssa.specs.Views.{instr_view, ends_view};
+
+use crate::{LinesFault, write_lines};
+use block_file::open_block;
+use lane_ssa::{Builder, EndAggs, EndOut, EndOuts, Ends, Frame, Instr, Job, Registers, Tally};
+use snel_device::MemOut;
+use snel_values::{IsWhat, OutOfMemory, Text, Value};
+use std::alloc::Global;
+use std::process::Abort;
+use std::test::Fail;
+
+/// The table of `a` and `b` and the rows `{"a":1,"b":"x"}`, `{"a":null}` and `{"b":7}`.
+const THREE: &[u8] = &[
+    0xE0, 0x01, 0x00, 0xEA, 0xE9, 0x81, 0x83, 0xD6, 0x87, 0xB4, 0x81, 0x61, 0x81, 0x62, 0xD6, 0x8A,
+    0x21, 0x01, 0x8B, 0x81, 0x78, 0xD2, 0x8A, 0x0F, 0xD3, 0x8B, 0x21, 0x07,
+];
+
+/// The same table, without a row.
+const TABLE: &[u8] = &[
+    0xE0, 0x01, 0x00, 0xEA, 0xE9, 0x81, 0x83, 0xD6, 0x87, 0xB4, 0x81, 0x61, 0x81, 0x62,
+];
+
+/// Adds an instruction that makes a value.
+fn value(builder: &mut Builder, instr: Instr) -> Result<(), OutOfMemory>
+    requires names { IsInstruction (mask_count builder.old) (value_count builder.old) (instr_view instr) }
+    requires makes { makes_mask (instr_view instr) ≡ false }
+    ensures masks { IfOk result (λ _. mask_count builder.new ≡ mask_count builder.old) }
+    ensures values { IfOk result (λ _. value_count builder.new ≡ value_count builder.old + 1) }
+{
+    builder.put(instr)?;
+    Ok(())
+}
+
+/// Adds an instruction that makes a mask.
+fn mask(builder: &mut Builder, instr: Instr) -> Result<(), OutOfMemory>
+    requires names { IsInstruction (mask_count builder.old) (value_count builder.old) (instr_view instr) }
+    requires makes { makes_mask (instr_view instr) ≡ true }
+    ensures masks { IfOk result (λ _. mask_count builder.new ≡ mask_count builder.old + 1) }
+    ensures values { IfOk result (λ _. value_count builder.new ≡ value_count builder.old) }
+{
+    builder.put(instr)?;
+    Ok(())
+}
+
+/// The field of the row of that name.
+fn field(alloc: Global, builder: &mut Builder, name: &str) -> Result<(), OutOfMemory>
+    requires masks { mask_count builder.old ≡ 1 }
+    requires values { 0 < value_count builder.old }
+    ensures masks { IfOk result (λ _. mask_count builder.new ≡ 1) }
+    ensures values { IfOk result (λ _. value_count builder.new ≡ value_count builder.old + 1) }
+{
+    let name = Text::of(alloc, name)?;
+    value(
+        builder,
+        Instr::Field {
+            mask: 0,
+            of: 0,
+            name,
+        },
+    )
+}
+
+/// The live lanes, mask 0; the row, value 0; its fields `a` and `b`, values 1 and 2; `a IS MISSING`, value 3; and the lanes
+/// in which it is, mask 1.
+fn fields(alloc: Global) -> Result<Builder, OutOfMemory>
+    ensures masks { IfOk result (λ b. mask_count b ≡ 2) }
+    ensures values { IfOk result (λ b. value_count b ≡ 4) }
+{
+    let mut builder = Builder::new(alloc);
+    mask(&mut builder, Instr::All)?;
+    value(&mut builder, Instr::Root { mask: 0 })?;
+    field(alloc, &mut builder, "a")?;
+    field(alloc, &mut builder, "b")?;
+    let what = IsWhat::Missing;
+    value(
+        &mut builder,
+        Instr::Is {
+            mask: 0,
+            what,
+            of: 1,
+        },
+    )?;
+    mask(&mut builder, Instr::True { mask: 0, of: 3 })?;
+    Ok(builder)
+}
+
+/// A literal.
+fn literal(builder: &mut Builder, constant: Value) -> Result<(), OutOfMemory>
+    requires names { IsInstruction (mask_count builder.old) (value_count builder.old) (instr_view (Instr.Const 0 constant)) }
+    ensures masks { IfOk result (λ _. mask_count builder.new ≡ mask_count builder.old) }
+    ensures values { IfOk result (λ _. value_count builder.new ≡ value_count builder.old + 1) }
+{
+    value(
+        builder,
+        Instr::Const {
+            mask: 0,
+            value: constant,
+        },
+    )
+}
+
+/// The same, and NULL, true, -5, the first moment of 1970 and the text `q"`, values 4 to 8.
+fn registers(alloc: Global) -> Result<Builder, OutOfMemory>
+    ensures masks { IfOk result (λ b. mask_count b ≡ 2) }
+    ensures values { IfOk result (λ b. value_count b ≡ 9) }
+{
+    let mut builder = fields(alloc)?;
+    literal(&mut builder, Value::Null)?;
+    literal(&mut builder, Value::Bool(true))?;
+    literal(&mut builder, Value::Int(-5))?;
+    literal(&mut builder, Value::Time(0))?;
+    let text = Text::of(alloc, "q\"")?;
+    literal(&mut builder, Value::Text(text))?;
+    Ok(builder)
+}
+
+/// Two outputs, each a name and a value register.
+fn two(alloc: Global, a: (&str, u32), b: (&str, u32)) -> Result<EndOuts, OutOfMemory>
+    ensures { IfOk result (λ o. o ≡ (a.entry.0.now, a.entry.1) ∷ (b.entry.0.now, b.entry.1) ∷ []) }
+{
+    let mut outs = EndOuts::new(alloc);
+    let name = Text::of(alloc, a.0)?;
+    outs.push(EndOut {
+        name,
+        register: a.1,
+    })?;
+    let name = Text::of(alloc, b.0)?;
+    outs.push(EndOut {
+        name,
+        register: b.1,
+    })?;
+    Ok(outs)
+}
+
+/// The job of all these registers and two outputs, or of `*`.
+fn job(
+    alloc: Global,
+    keep: u32,
+    star: bool,
+    a: (&str, u32),
+    b: (&str, u32),
+) -> Result<Job, OutOfMemory>
+    requires keep { keep < 2 }
+    requires a { a.1 < 9 }
+    requires b { b.1 < 9 }
+{
+    let builder = registers(alloc)?;
+    let outs = two(alloc, a, b)?;
+    Ok(builder.finish(Ends {
+        keep,
+        star,
+        grouped: false,
+        outs,
+        sorts: Registers::new(alloc),
+        groups: Registers::new(alloc),
+        aggs: EndAggs::new(alloc),
+    }))
+}
+
+/// What writing the lines of so many rows answers, and what the frame counted.
+fn run<'b>(
+    alloc: Global,
+    job: &'b Job,
+    bytes: &'b [u8],
+    rows: u32,
+    out: &mut MemOut,
+) -> Option<(Result<u64, LinesFault>, Tally)> {
+    match (Frame::new(alloc, job), open_block(alloc, bytes, rows)) {
+        (Ok(mut frame), Ok(block)) => {
+            let written = write_lines(alloc, &mut frame, &block, out);
+            Some((written, frame.into_tally()))
+        }
+        _ => None,
+    }
+}
+
+/// The job writes these lines of the three rows.
+fn writes(rt: &impl Abort, alloc: Global, job: &Job, lines: u64, wanted: &str) -> Result<(), Fail> {
+    let mut out = MemOut::new(alloc, &[])?;
+    match run(alloc, job, THREE, 3, &mut out) {
+        Some((written, counted)) => {
+            assert_eq!(rt; written, Ok(lines), "{wanted}");
+            assert_eq!(rt; out.bytes(), wanted.as_bytes(), "{wanted}");
+            assert_eq!(rt; counted.chunks(), 1, "{wanted}");
+            assert_eq!(rt; counted.kept(), lines, "{wanted}");
+            Ok(())
+        }
+        None => Err("no frame".into()),
+    }
+}
+
+#[test]
+fn whole_rows_are_lines(rt: HostRuntime) -> Result<(), Fail> {
+    let all = job(rt.alloc(), 0, true, ("a", 1), ("b", 2))?;
+    writes(
+        &rt,
+        rt.alloc(),
+        &all,
+        3,
+        "{\"a\":1,\"b\":\"x\"}\n{\"a\":null}\n{\"b\":7}\n",
+    )?;
+    let missing = job(rt.alloc(), 1, true, ("a", 1), ("b", 2))?;
+    writes(&rt, rt.alloc(), &missing, 1, "{\"b\":7}\n")
+}
+
+/// The two outputs of rows, and the lines that are wanted.
+const NAMED: [(u32, (&str, u32), (&str, u32), u64, &str); 6] = [
+    (
+        0,
+        ("b", 2),
+        ("a", 1),
+        3,
+        "{\"b\":\"x\",\"a\":1}\n{\"a\":null}\n{\"b\":7}\n",
+    ),
+    (1, ("a", 1), ("b", 2), 1, "{\"b\":7}\n"),
+    (
+        0,
+        ("r", 0),
+        ("m", 3),
+        3,
+        "{\"r\":{\"a\":1,\"b\":\"x\"},\"m\":false}\n{\"r\":{\"a\":null},\"m\":false}\n{\"r\":{\"b\":7},\"m\":true}\n",
+    ),
+    (1, ("n", 4), ("t", 5), 1, "{\"n\":null,\"t\":true}\n"),
+    (
+        1,
+        ("i", 6),
+        ("t", 7),
+        1,
+        "{\"i\":-5,\"t\":\"1970-01-01T00:00:00Z\"}\n",
+    ),
+    (1, ("s", 8), ("a", 1), 1, "{\"s\":\"q\\\"\"}\n"),
+];
+
+#[test]
+fn outputs_are_pairs(rt: HostRuntime) -> Result<(), Fail> {
+    for (keep, a, b, lines, wanted) in NAMED {
+        if keep < 2 && a.1 < 9 && b.1 < 9 {
+            let named = job(rt.alloc(), keep, false, a, b)?;
+            writes(&rt, rt.alloc(), &named, lines, wanted)?;
+        }
+    }
+    Ok(())
+}
+
+#[test]
+fn a_sink_that_fails_has_a_front(rt: HostRuntime) -> Result<(), Fail> {
+    let named = job(rt.alloc(), 0, false, ("a", 1), ("b", 2))?;
+    let mut out = MemOut::new(rt.alloc(), &[(1, 9)])?;
+    match run(rt.alloc(), &named, THREE, 3, &mut out) {
+        Some((written, _)) => {
+            assert_eq!(rt; written, Err(LinesFault::WriteFault));
+            assert_eq!(rt; out.bytes(), b"{\"a\":1,\"b".as_slice());
+            Ok(())
+        }
+        None => Err("no frame".into()),
+    }
+}
+
+/// A block of so many rows `{}`.
+fn empty_rows(alloc: Global, rows: u32) -> Result<Vec<u8>, Fail> {
+    let mut bytes = Vec::from_slice(alloc, TABLE)?;
+    for _ in 0..rows {
+        bytes.push(0xD0)?;
+    }
+    Ok(bytes)
+}
+
+#[test]
+fn each_chunk_has_its_lines(rt: HostRuntime) -> Result<(), Fail> {
+    let named = job(rt.alloc(), 1, false, ("a", 1), ("m", 3))?;
+    let bytes = empty_rows(rt.alloc(), 17)?;
+    let mut out = MemOut::new(rt.alloc(), &[])?;
+    match run(rt.alloc(), &named, &bytes, 17, &mut out) {
+        Some((written, counted)) => {
+            assert_eq!(rt; written, Ok(17));
+            assert_eq!(rt;
+                out.bytes(),
+                b"{\"m\":true}\n".repeat(rt.alloc(), 17)?.as_slice()
+            );
+            assert_eq!(rt; counted.chunks(), 2);
+            Ok(())
+        }
+        None => Err("no frame".into()),
+    }
+}
+
+/// Lines are put 65,536 bytes or more at a time: those of 1,366 chunks, each of 16 lines of 3 bytes.
+#[test]
+fn many_lines_go_in_few_puts(rt: HostRuntime) -> Result<(), Fail> {
+    let all = job(rt.alloc(), 0, true, ("a", 1), ("b", 2))?;
+    let bytes = empty_rows(rt.alloc(), 30_000)?;
+    let mut out = MemOut::new(rt.alloc(), &[(2, 0)])?;
+    match run(rt.alloc(), &all, &bytes, 30_000, &mut out) {
+        Some((written, _)) => {
+            assert_eq!(rt; written, Err(LinesFault::WriteFault));
+            assert_eq!(rt; out.bytes().len(), 65_568);
+            Ok(())
+        }
+        None => Err("no frame".into()),
+    }
+}
