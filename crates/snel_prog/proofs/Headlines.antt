@@ -1,86 +1,29 @@
--- The bytes that a query command writes are those of an answer.
-use Rattle.std.proofs.Common.{◌≡◌, ◌≢◌, ℕ, List, [], ◌∷◌, ◌++◌, length, Bool, true, false, eqb, cond, Option, Some, None, refl, sym, subst, ◌∙◌, arith}
-use Rattle.std.proofs.lemmas.Bool.Decides.{nat_tests}
-use Rattle.std.proofs.lemmas.List.{append-nil}
-use Rattle.std.specs.Io.KnownBytes.{Keeps, Appends}
+-- The headline of what is asked.
+use Rattle.std.proofs.Common.{◌≡◌, ℕ, List, Option, subst}
 use Rattle.snel_device.specs.Contents.{Contents}
-use Rattle.value_meaning.specs.Val.{Val}
-use Rattle.block_meaning.specs.Tables.{Table}
-use Rattle.block_meaning.specs.Blocks.{IsBlock, block_in}
-use Rattle.block_meaning.proofs.BlockReading.{blocks_read, damaged_none, damaged_count}
-use Rattle.file_meaning.specs.Files.{Entry, IsFile, bytes_at, counted_rows, rows_at, rows_of}
-use Rattle.query_meaning.specs.Tree.{Query}
-use Rattle.snel_prog.specs.Words.{Ask, query}
-use Rattle.snel_prog.specs.Queries.{Accepts}
-use Rattle.snel_prog.specs.Headline.{AddsAnswer, Headline}
-use Rattle.snel_prog.specs.Written.{rows_text}
-use Rattle.snel_prog.specs.Verdicts.{Verdict, no_block_file, bad_block, rows, EndsAs}
-use Rattle.snel_prog.specs.Causes.{HasNoBlock, HasBadBlock, FindsInFile, Ends}
-use Rattle.snel_prog.proofs.Built.{built_is_whole}
-use Rattle.snel_prog.proofs.Verdicts.{answer_of}
-use Rattle.snel_prog.proofs.OneBlock.{field_is_empty, one_is_there}
+use Rattle.query_run.specs.Headline as of_query
+use Rattle.query_run.specs.Headline.{AddsAnswer}
+use Rattle.snel_prog.specs.Words.{nothing, query, explain}
+use Rattle.snel_prog.specs.Headline.{Headline}
 
-Keeps-appends : (old new : Option (List ℕ)) → Keeps old new → Appends old new []
-Keeps-appends None new h = tt
-Keeps-appends (Some xs) None h = absurd h
-Keeps-appends (Some xs) (Some ys) h = h ∙ sym (append-nil xs)
+same_text : (a b c d : List ℕ) → query a b ≡ query c d → a ≡ c
+same_text a b c d e = cc
 
--- a sink that kept what it held took the beginning of every answer
-nothing_added : (sql : List ℕ) (q : Query) → Accepts sql q → (rs : List Val) (status : ℕ) (old new : Option (List ℕ)) → (status ≡ 0 → ⊥) → Keeps old new → AddsAnswer q rs status old new
-nothing_added sql q taken rs status old new other keeps = record {
-  outputs = _;
-  answer = answer_of q (built_is_whole q taken.built) rs;
-  added = [];
-  appends = Keeps-appends old new keeps;
-  whole = λ e. absurd (other e);
-  front = (rows_text rs, refl);
-}
+same_name : (a b c d : List ℕ) → query a b ≡ query c d → b ≡ d
+same_name a b c d e = cc
 
-module _ (sql name bytes : List ℕ) (files : Contents) (status : ℕ) (old new : Option (List ℕ)) (q : Query) (taken : Accepts sql q) (is : files name ≡ Some bytes) (ends : Ends (query sql name) (Some files) status old new) where
-  in_file : (v : Verdict) → FindsInFile (Some bytes) v → FindsInFile (files name) v
-  in_file v f = let P : Option (List ℕ) → Type 0 = λ o. FindsInFile o v in subst P (sym is) f
+module _ (told : Option Contents) (status : ℕ) (old new : Option (List ℕ)) where
+  pub of_file : (sql name : List ℕ) → of_query.Headline sql name told status old new → Headline (query sql name) told status old new
+  of_file sql name h = record {
+    answers = λ other file bytes field entries files q asks taken tells has is_file.
+        let here : of_query.Headline other file told status old new =
+        subst (λ (s : List ℕ). of_query.Headline s file told status old new) (same_text sql name other file asks)
+        (subst (λ (n : List ℕ). of_query.Headline sql n told status old new) (same_name sql name other file asks) h) in
+        here.answers bytes field entries files q taken tells has is_file;
+  }
 
-  no_block : (rs : List Val) → HasNoBlock bytes → AddsAnswer q rs status old new
-  no_block rs none =
-      let e : EndsAs (query sql name) no_block_file status old new = ends no_block_file ((q, taken), in_file no_block_file none) in
-      let allowed = e.allowed in
-      nothing_added sql q taken rs status old new (λ z. let bad = rw z at allowed in cc) e.wrote
+  pub of_nothing : Headline nothing told status old new
+  of_nothing = record { answers = λ sql name bytes field entries files q asks taken tells has is_file. absurd (cc) }
 
-  bad : (rs : List Val) → HasBadBlock bytes → AddsAnswer q rs status old new
-  bad rs damaged =
-      let e : EndsAs (query sql name) bad_block status old new = ends bad_block ((q, taken), in_file bad_block damaged) in
-      let allowed = e.allowed in
-      nothing_added sql q taken rs status old new (λ z. let no = rw z at allowed in cc) e.wrote
-
-  good : (e : Entry) (table : Table) (rs : List Val) → IsFile bytes [] (e ∷ []) → IsBlock table rs (bytes_at e bytes) → length rs ≡ e.rows → AddsAnswer q rs status old new
-  good e table rs file block count = (ends (rows rs) ((q, taken), in_file (rows rs) (e, file, (table, block, count)))).wrote q taken
-
-  one : (e : Entry) → IsFile bytes [] (e ∷ []) → AddsAnswer q (rows_of (e ∷ []) bytes) status old new
-  unfolding rows_at
-  one e file = go (block_in (bytes_at e bytes)) refl
-    where
-      counted : (b : Table × List Val) (t : Bool) → block_in (bytes_at e bytes) ≡ Some b → eqb (length b.1) e.rows ≡ t → AddsAnswer q (cond t b.1 [] ++ []) status old new
-      counted b true read same =
-          let count : length b.1 ≡ e.rows = grind (arith, nat_tests) in
-          let block : IsBlock b.0 b.1 (bytes_at e bytes) = (blocks_read b.0 b.1 (bytes_at e bytes)).0 read in
-          subst (λ (l : List Val). AddsAnswer q l status old new) (sym (append-nil b.1)) (good e b.0 b.1 file block count)
-      counted b false read other =
-          let count : length b.1 ≢ e.rows = λ c. let no : true ≡ false = sym (grind (arith, nat_tests)) ∙ other in cc in
-          bad [] (e, file, damaged_count e.rows (bytes_at e bytes) b.0 b.1 read count)
-
-      go : (o : Option (Table × List Val)) → block_in (bytes_at e bytes) ≡ o → AddsAnswer q (counted_rows e.rows (block_in (bytes_at e bytes)) ++ []) status old new
-      go None read = rw read (bad [] (e, file, damaged_none e.rows (bytes_at e bytes) read))
-      go (Some b) read = rw read (counted b (eqb (length b.1) e.rows) read refl)
-
-  pub answered : (field : List ℕ) (entries : List Entry) → IsFile bytes field entries → AddsAnswer q (rows_of entries bytes) status old new
-  answered field [] file = no_block _ (one_is_there bytes field [] file (λ z. omega arith))
-  answered [] (e ∷ []) file = one e file
-  answered (c ∷ cs) (e ∷ []) file = no_block _ (field_is_empty bytes (c ∷ cs) (e ∷ []) file (λ z. omega arith))
-  answered field (d ∷ e ∷ es) file = no_block _ (one_is_there bytes field (d ∷ e ∷ es) file (λ z. omega arith))
-
-pub headline : (ask : Ask) (told : Option Contents) (status : ℕ) (old new : Option (List ℕ)) → Ends ask told status old new → Headline ask told status old new
-headline ask told status old new ends = record {
-  answers = λ sql name bytes field entries files q asks taken tells has file.
-      let here : Ends (query sql name) (Some files) status old new = subst (λ (t : Option Contents). Ends (query sql name) t status old new) tells (subst (λ (a : Ask). Ends a told status old new) asks ends) in
-      answered sql name bytes files status old new q taken has here field entries file;
-}
+  pub of_listing : (sql : List ℕ) → Headline (explain sql) told status old new
+  of_listing text = record { answers = λ sql name bytes field entries files q asks taken tells has is_file. absurd (cc) }

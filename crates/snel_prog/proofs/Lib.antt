@@ -1,8 +1,5 @@
 mod Sink
-mod Verdicts
-mod Built
-mod OneBlock
-mod BlockEnds
 mod Statuses
 mod Headlines
+mod Commands
 mod Lines

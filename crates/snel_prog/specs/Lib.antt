@@ -1,13 +1,9 @@
 pub mod Words
-pub mod Queries
-pub mod QueryFaults
 pub mod Asked
 pub mod Statuses
 pub mod Messages
-pub mod Verdicts
+pub mod Exactly
 pub mod Causes
-pub mod Loading
 pub mod Refusals
 pub mod Headline
-pub mod Written
 pub mod Reports

@@ -8,7 +8,7 @@ use Rattle.check_meaning.specs.Place as place
 use Rattle.check_meaning.specs.Place.{Place}
 use Rattle.check_meaning.specs.Fault as fault
 use Rattle.check_meaning.specs.Fault.{Fault}
-use Rattle.snel_prog.specs.Queries.{Refused, unread, unchecked, not_built}
+use Rattle.query_run.specs.Queries.{Refused, unread, unchecked, not_built}
 
 abbrev pub about : List ℕ → List ℕ → List ℕ
 about name what = codes "snel: " ++ name ++ what

@@ -1,5 +1,5 @@
 //! What the words ask.
-ghost use Rattle.std.specs.Prelude.{◌≡◌, ◌∷◌, []};
+ghost use Rattle.std.specs.Prelude.{◌≡◌, ◌∷◌, [], length};
 ghost use Rattle.snel_prog.specs.Words.{asked, is_operand};
 ghost use Rattle.snel_prog.specs.Asked.{ask_view};
 
@@ -16,6 +16,11 @@ pub enum Ask<'w> {
         /// The file's name.
         name: &'w str,
     },
+    /// The listing of a query.
+    Explain {
+        /// The query's text.
+        sql: &'w str,
+    },
 }
 
 // Whether a word can be a query's text or a file's name.
@@ -29,6 +34,9 @@ fn is_operand(word: &str) -> bool
 pub fn asked<'w>(words: &'w Words) -> Ask<'w>
     ensures { ask_view result ≡ asked words.now }
 {
+    if words.len() == 2 {
+        return asked_of_two(words);
+    }
     if words.len() != 3 {
         return Ask::Nothing;
     }
@@ -36,6 +44,26 @@ pub fn asked<'w>(words: &'w Words) -> Ask<'w>
         return Ask::Nothing;
     };
     asked_by(command, sql, name)
+}
+
+fn asked_of_two<'w>(words: &'w Words) -> Ask<'w>
+    requires { length words.now ≡ 2 }
+    ensures { ask_view result ≡ asked words.now }
+{
+    let (Some(command), Some(sql)) = (words.get(0), words.get(1)) else {
+        return Ask::Nothing;
+    };
+    explained_by(command, sql)
+}
+
+fn explained_by<'w>(command: &'w str, sql: &'w str) -> Ask<'w>
+    ensures { ask_view result ≡ asked (command.now ∷ sql.now ∷ []) }
+{
+    if command == "explain" && is_operand(sql) {
+        Ask::Explain { sql }
+    } else {
+        Ask::Nothing
+    }
 }
 
 fn asked_by<'w>(command: &'w str, sql: &'w str, name: &'w str) -> Ask<'w>

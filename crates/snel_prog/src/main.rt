@@ -1,19 +1,16 @@
 //! snel answers SQL over block files of log records with JSON lines and a status.
 #![tactic(auto)]
 
-mod accept;
 mod ask;
 #[cfg(test)]
 mod form_tests;
-mod load;
-mod query;
-mod query_fault;
 mod refusal;
 mod report;
 mod run;
 #[cfg(test)]
 mod tests;
 
+use query_run::QueryFault;
 use refusal::Refusal;
 use run::snel;
 use snel_device::{HostFiles, HostInput, HostOut, OpenGate};
@@ -26,13 +23,13 @@ use std::{env, rt};
 fn words_of<R: rt::Env + AllocGlobal>(rt: &R) -> Result<Words, Refusal> {
     let args = match env::args(rt) {
         Ok(args) => args,
-        Err(e) if e.kind() == ErrorKind::OutOfMemory => return Err(Refusal::OutOfMemory),
+        Err(e) if e.kind() == ErrorKind::OutOfMemory => return Err(Refusal::Query(QueryFault::OutOfMemory)),
         Err(_) => return Err(Refusal::Words),
     };
     let mut words = Words::new(rt.alloc());
     for arg in args.skip(1) {
         if words.push(arg.as_str()).is_err() {
-            return Err(Refusal::OutOfMemory);
+            return Err(Refusal::Query(QueryFault::OutOfMemory));
         }
     }
     Ok(words)

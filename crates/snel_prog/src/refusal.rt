@@ -1,24 +1,12 @@
-use crate::query_fault::QueryFault;
+use query_run::QueryFault;
 
 /// Why a call ended without the whole answer.
 #[derive(Clone, Copy, Debug, PartialEq, Eq)]
 pub enum Refusal {
     /// The words aren't accepted.
     Words,
-    /// The query is refused.
+    /// This stands against the query.
     Query(QueryFault),
-    /// The file is absent.
-    Absent,
-    /// The file is no block file.
-    NotAFile,
-    /// The file's block is damaged.
-    Damaged,
-    /// Reading failed.
-    ReadFault,
-    /// Writing failed.
-    WriteFault,
-    /// There was no memory.
-    OutOfMemory,
 }
 
 impl Refusal {
@@ -31,13 +19,13 @@ impl Refusal {
     {
         match self {
             Refusal::Words => 2,
-            Refusal::Query(_) => 3,
-            Refusal::Absent => 4,
-            Refusal::NotAFile => 5,
-            Refusal::Damaged => 6,
-            Refusal::ReadFault => 8,
-            Refusal::WriteFault => 9,
-            Refusal::OutOfMemory => 10,
+            Refusal::Query(QueryFault::Text(_)) => 3,
+            Refusal::Query(QueryFault::Absent) => 4,
+            Refusal::Query(QueryFault::NotAFile) => 5,
+            Refusal::Query(QueryFault::Damaged) => 6,
+            Refusal::Query(QueryFault::ReadFault) => 8,
+            Refusal::Query(QueryFault::WriteFault) => 9,
+            Refusal::Query(QueryFault::OutOfMemory) => 10,
         }
     }
 }

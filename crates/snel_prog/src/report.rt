@@ -6,12 +6,12 @@ ghost use Rattle.query_check.specs.Faults.{limit_view, place_view};
 ghost use Rattle.snel_device.specs.Causes.{Rose};
 ghost use Rattle.snel_prog.specs.Messages.{numbered, limit_words, place_words, refused_words, query_line};
 ghost use Rattle.snel_prog.specs.Reports.{refusal_line};
-ghost use Rattle.snel_prog.specs.QueryFaults.{refused_view};
+ghost use Rattle.query_run.specs.TextFaults.{refused_view};
 
-use crate::query_fault::QueryFault;
 use crate::refusal::Refusal;
 use itoa::Buffer;
 use query_check::{Limit, Place};
+use query_run::{QueryFault, TextFault};
 use snel_device::{Failed, Out};
 
 fn puts<E: Out>(err: &mut E, piece: &str) -> Result<(), Failed>
@@ -91,31 +91,31 @@ fn puts_too_many<E: Out>(err: &mut E, limit: Limit) -> Result<(), Failed>
 }
 
 // Why the text of a query isn't answered.
-fn puts_fault<E: Out>(err: &mut E, fault: QueryFault) -> Result<(), Failed>
+fn puts_fault<E: Out>(err: &mut E, fault: TextFault) -> Result<(), Failed>
     ensures line { OnOk result (Appends (E.holds err.old) (E.holds err.new) (refused_words (refused_view fault))) }
     ensures failed { OnErr result (Rose (E.faults err.old) (E.faults err.new)) }
     ensures later { E.faults err.old ≤ E.faults err.new }
 {
     match fault {
-        QueryFault::TooLong => puts(err, "too long"),
-        QueryFault::BadToken(place) => puts_number(err, "bad token at byte ", place),
-        QueryFault::TooManyTokens => puts(err, "too many tokens"),
-        QueryFault::RefusedWord(place) => puts_number(err, "refused word at byte ", place),
-        QueryFault::TooDeep(place) => puts_number(err, "nested too deep at byte ", place),
-        QueryFault::NotAQuery => puts(err, "not a query"),
-        QueryFault::TooMany(limit) => puts_too_many(err, limit),
-        QueryFault::Nested(place) => puts_at(err, place, " has a misplaced aggregate"),
-        QueryFault::NotGrouped(place) => puts_at(err, place, " is not grouped"),
-        QueryFault::OverGroups(place) => puts_at(err, place, " is not allowed over groups"),
-        QueryFault::SameName(output) => {
+        TextFault::TooLong => puts(err, "too long"),
+        TextFault::BadToken(place) => puts_number(err, "bad token at byte ", place),
+        TextFault::TooManyTokens => puts(err, "too many tokens"),
+        TextFault::RefusedWord(place) => puts_number(err, "refused word at byte ", place),
+        TextFault::TooDeep(place) => puts_number(err, "nested too deep at byte ", place),
+        TextFault::NotAQuery => puts(err, "not a query"),
+        TextFault::TooMany(limit) => puts_too_many(err, limit),
+        TextFault::Nested(place) => puts_at(err, place, " has a misplaced aggregate"),
+        TextFault::NotGrouped(place) => puts_at(err, place, " is not grouped"),
+        TextFault::OverGroups(place) => puts_at(err, place, " is not allowed over groups"),
+        TextFault::SameName(output) => {
             puts_numbered(err, "output ", output, " has an earlier name")
         }
-        QueryFault::NoSuchOrder(key) => puts_numbered(err, "order key ", key, " has no output"),
-        QueryFault::NotBuilt => puts(err, "not built yet"),
+        TextFault::NoSuchOrder(key) => puts_numbered(err, "order key ", key, " has no output"),
+        TextFault::NotBuilt => puts(err, "not built yet"),
     }
 }
 
-fn puts_query<E: Out>(err: &mut E, fault: QueryFault) -> Result<(), Failed>
+fn puts_query<E: Out>(err: &mut E, fault: TextFault) -> Result<(), Failed>
     ensures line { OnOk result (Appends (E.holds err.old) (E.holds err.new) (query_line (refused_view fault))) }
     ensures failed { OnErr result (Rose (E.faults err.old) (E.faults err.new)) }
 {
@@ -133,6 +133,22 @@ fn puts_about<E: Out>(err: &mut E, name: &str, what: &str) -> Result<(), Failed>
     puts(err, what)
 }
 
+// The line of what stands against a query.
+fn puts_refused<E: Out>(err: &mut E, fault: QueryFault, name: &str) -> Result<(), Failed>
+    ensures line { OnOk result (Appends (E.holds err.old) (E.holds err.new) (refusal_line (Refusal.Query fault) name.now)) }
+    ensures failed { OnErr result (Rose (E.faults err.old) (E.faults err.new)) }
+{
+    match fault {
+        QueryFault::Text(fault) => puts_query(err, fault),
+        QueryFault::Absent => puts_about(err, name, ": no such file\n"),
+        QueryFault::NotAFile => puts_about(err, name, ": not a block file\n"),
+        QueryFault::Damaged => puts_about(err, name, ": block 0 is damaged\n"),
+        QueryFault::ReadFault => puts(err, "snel: files: read failed\n"),
+        QueryFault::WriteFault => puts(err, "snel: write failed\n"),
+        QueryFault::OutOfMemory => puts(err, "snel: out of memory\n"),
+    }
+}
+
 /// Writes the line of a refusal, about the file of this name where it is about one.
 /// Where a put fails, the rest of the line isn't written.
 pub fn report<E: Out>(refusal: Refusal, name: &str, err: &mut E)
@@ -140,12 +156,6 @@ pub fn report<E: Out>(refusal: Refusal, name: &str, err: &mut E)
 {
     let _ = match refusal {
         Refusal::Words => puts(err, "snel: words not understood\n"),
-        Refusal::Query(fault) => puts_query(err, fault),
-        Refusal::Absent => puts_about(err, name, ": no such file\n"),
-        Refusal::NotAFile => puts_about(err, name, ": not a block file\n"),
-        Refusal::Damaged => puts_about(err, name, ": block 0 is damaged\n"),
-        Refusal::ReadFault => puts(err, "snel: files: read failed\n"),
-        Refusal::WriteFault => puts(err, "snel: write failed\n"),
-        Refusal::OutOfMemory => puts(err, "snel: out of memory\n"),
+        Refusal::Query(fault) => puts_refused(err, fault, name),
     };
 }

@@ -1,16 +1,13 @@
-use Rattle.std.proofs.Common.{ℕ, List, Result, ap, sym, subst, ◌∙◌, arith}
+use Rattle.std.proofs.Common.{ℕ, List, Result, ap, sym, subst, ◌∙◌, inl, arith, refl}
 use Rattle.std.specs.Io.KnownBytes.{Appends}
 use Rattle.snel_prog.specs.declared.refusal.Refusal.{Refusal}
-use Rattle.snel_prog.specs.Refusals.{HasItsCause}
-use Rattle.snel_prog.proofs.Lines.{line_of_query}
-use Rattle.snel_prog.specs.declared.refusal.Refusal.TheVariants.{ReadFault, WriteFault}
-use Rattle.snel_prog.specs.Words.{Ask, asked, query}
+use Rattle.snel_prog.specs.Words.{Ask, asked, query, explain}
 use Rattle.snel_prog.specs.Statuses.{status_after}
-use Rattle.snel_prog.specs.Verdicts.{rows}
 use Rattle.snel_prog.specs.Causes.{Ends}
-use Rattle.snel_prog.proofs.Statuses.{Ended, refused_by, done_or_memory, bad_words, bad_query, absent_told, no_block_told, damaged_block}
-use Rattle.snel_prog.proofs.BlockEnds.{quiet_by_status}
-use Rattle.snel_prog.proofs.Headlines.{headline}
+use Rattle.snel_prog.specs.Refusals.{HasItsCause}
+use Rattle.snel_prog.specs.Headline.{Headline}
+use Rattle.snel_prog.proofs.Lines.{line_of_query, line_of_explain}
+use Rattle.snel_prog.proofs.Statuses.{Ended, complete, listed_or_memory, bad_words, bad_query, bad_explain, absent_told, no_block_told, damaged_block}
 use Rattle.snel_prog.proofs.run.snel.Goals as goal
 
 pub returns-in-Ok-clause-headline : goal.returns-in-Ok-clause-headline
@@ -19,10 +16,8 @@ returns-in-Ok-clause-headline g c =
     let told = g.F.Files.told c.args.files.now in
     let old = g.O.Out.holds c.args.out.now in
     let new = g.O.Out.holds c.run.new.out in
-    let is = ap status_after c.in-Ok.is in
-    let ends = subst (λ (n : ℕ). Ends ask told n old new) is c.run.ensures.ends in
-    let h : Ended ask told c.run.result 0 old new = record { is = sym is; ends = ends; cause = c.run.ensures.cause } in
-    headline ask told 0 old new h.ends
+    let is = sym (ap status_after c.in-Ok.is) in
+    subst (λ (n : ℕ). Headline ask told n old new) (sym is) c.run.ensures.headline
 
 pub returns-in-Ok-clause-bad_words : goal.returns-in-Ok-clause-bad_words
 returns-in-Ok-clause-bad_words g c =
@@ -30,9 +25,9 @@ returns-in-Ok-clause-bad_words g c =
     let told = g.F.Files.told c.args.files.now in
     let old = g.O.Out.holds c.args.out.now in
     let new = g.O.Out.holds c.run.new.out in
-    let is = ap status_after c.in-Ok.is in
-    let ends = subst (λ (n : ℕ). Ends ask told n old new) is c.run.ensures.ends in
-    let h : Ended ask told c.run.result 0 old new = record { is = sym is; ends = ends; cause = c.run.ensures.cause } in
+    let is = sym (ap status_after c.in-Ok.is) in
+    let ends = subst (λ (n : ℕ). Ends ask told n old new) (sym is) c.run.ensures.ends in
+    let h : Ended ask told c.run.result 0 old new = record { is = is; ends = ends; cause = c.run.ensures.cause } in
     bad_words told c.run.result 0 old new ask h
 
 pub returns-in-Ok-clause-bad_query : goal.returns-in-Ok-clause-bad_query
@@ -41,10 +36,21 @@ returns-in-Ok-clause-bad_query g c =
     let told = g.F.Files.told c.args.files.now in
     let old = g.O.Out.holds c.args.out.now in
     let new = g.O.Out.holds c.run.new.out in
-    let is = ap status_after c.in-Ok.is in
-    let ends = subst (λ (n : ℕ). Ends ask told n old new) is c.run.ensures.ends in
-    let h : Ended ask told c.run.result 0 old new = record { is = sym is; ends = ends; cause = c.run.ensures.cause } in
+    let is = sym (ap status_after c.in-Ok.is) in
+    let ends = subst (λ (n : ℕ). Ends ask told n old new) (sym is) c.run.ensures.ends in
+    let h : Ended ask told c.run.result 0 old new = record { is = is; ends = ends; cause = c.run.ensures.cause } in
     λ sql name e. bad_query told c.run.result 0 old new sql name (subst (λ (a : Ask). Ended a told c.run.result 0 old new) e h)
+
+pub returns-in-Ok-clause-bad_explain : goal.returns-in-Ok-clause-bad_explain
+returns-in-Ok-clause-bad_explain g c =
+    let ask = asked c.args.words.now in
+    let told = g.F.Files.told c.args.files.now in
+    let old = g.O.Out.holds c.args.out.now in
+    let new = g.O.Out.holds c.run.new.out in
+    let is = sym (ap status_after c.in-Ok.is) in
+    let ends = subst (λ (n : ℕ). Ends ask told n old new) (sym is) c.run.ensures.ends in
+    let h : Ended ask told c.run.result 0 old new = record { is = is; ends = ends; cause = c.run.ensures.cause } in
+    λ sql e. bad_explain told c.run.result 0 old new sql (subst (λ (a : Ask). Ended a told c.run.result 0 old new) e h)
 
 pub returns-in-Ok-clause-absent_told : goal.returns-in-Ok-clause-absent_told
 returns-in-Ok-clause-absent_told g c =
@@ -52,9 +58,9 @@ returns-in-Ok-clause-absent_told g c =
     let told = g.F.Files.told c.args.files.now in
     let old = g.O.Out.holds c.args.out.now in
     let new = g.O.Out.holds c.run.new.out in
-    let is = ap status_after c.in-Ok.is in
-    let ends = subst (λ (n : ℕ). Ends ask told n old new) is c.run.ensures.ends in
-    let h : Ended ask told c.run.result 0 old new = record { is = sym is; ends = ends; cause = c.run.ensures.cause } in
+    let is = sym (ap status_after c.in-Ok.is) in
+    let ends = subst (λ (n : ℕ). Ends ask told n old new) (sym is) c.run.ensures.ends in
+    let h : Ended ask told c.run.result 0 old new = record { is = is; ends = ends; cause = c.run.ensures.cause } in
     absent_told c.run.result 0 old new ask told h
 
 pub returns-in-Ok-clause-no_block_file : goal.returns-in-Ok-clause-no_block_file
@@ -63,9 +69,9 @@ returns-in-Ok-clause-no_block_file g c =
     let told = g.F.Files.told c.args.files.now in
     let old = g.O.Out.holds c.args.out.now in
     let new = g.O.Out.holds c.run.new.out in
-    let is = ap status_after c.in-Ok.is in
-    let ends = subst (λ (n : ℕ). Ends ask told n old new) is c.run.ensures.ends in
-    let h : Ended ask told c.run.result 0 old new = record { is = sym is; ends = ends; cause = c.run.ensures.cause } in
+    let is = sym (ap status_after c.in-Ok.is) in
+    let ends = subst (λ (n : ℕ). Ends ask told n old new) (sym is) c.run.ensures.ends in
+    let h : Ended ask told c.run.result 0 old new = record { is = is; ends = ends; cause = c.run.ensures.cause } in
     no_block_told c.run.result 0 old new ask told h
 
 pub returns-in-Ok-clause-bad_block : goal.returns-in-Ok-clause-bad_block
@@ -74,10 +80,54 @@ returns-in-Ok-clause-bad_block g c =
     let told = g.F.Files.told c.args.files.now in
     let old = g.O.Out.holds c.args.out.now in
     let new = g.O.Out.holds c.run.new.out in
-    let is = ap status_after c.in-Ok.is in
-    let ends = subst (λ (n : ℕ). Ends ask told n old new) is c.run.ensures.ends in
-    let h : Ended ask told c.run.result 0 old new = record { is = sym is; ends = ends; cause = c.run.ensures.cause } in
+    let is = sym (ap status_after c.in-Ok.is) in
+    let ends = subst (λ (n : ℕ). Ends ask told n old new) (sym is) c.run.ensures.ends in
+    let h : Ended ask told c.run.result 0 old new = record { is = is; ends = ends; cause = c.run.ensures.cause } in
     damaged_block c.run.result 0 old new ask told h
+
+pub returns-in-Ok-clause-listing : goal.returns-in-Ok-clause-listing
+returns-in-Ok-clause-listing g c sql q e accepts open_status =
+    let ask = asked c.args.words.now in
+    let told = g.F.Files.told c.args.files.now in
+    let old = g.O.Out.holds c.args.out.now in
+    let new = g.O.Out.holds c.run.new.out in
+    let is = sym (ap status_after c.in-Ok.is) in
+    let ends = subst (λ (n : ℕ). Ends ask told n old new) (sym is) c.run.ensures.ends in
+    let h : Ended ask told c.run.result 0 old new = record { is = is; ends = ends; cause = c.run.ensures.cause } in
+    (subst (λ (a : Ask). Ends a told 0 old new) e ends).listed q accepts open_status
+
+pub returns-in-Ok-clause-ends : goal.returns-in-Ok-clause-ends
+returns-in-Ok-clause-ends g c =
+    let ask = asked c.args.words.now in
+    let told = g.F.Files.told c.args.files.now in
+    let old = g.O.Out.holds c.args.out.now in
+    let new = g.O.Out.holds c.run.new.out in
+    let is = sym (ap status_after c.in-Ok.is) in
+    subst (λ (n : ℕ). Ends ask told n old new) (sym is) c.run.ensures.ends
+
+pub returns-in-Ok-clause-quiet : goal.returns-in-Ok-clause-quiet
+returns-in-Ok-clause-quiet g c done write memory =
+    absurd (done refl)
+
+pub returns-in-Ok-clause-complete : goal.returns-in-Ok-clause-complete
+returns-in-Ok-clause-complete g c rs finds no_read no_write =
+    inl refl
+
+pub returns-in-Ok-clause-complete_listing : goal.returns-in-Ok-clause-complete_listing
+returns-in-Ok-clause-complete_listing g c sql e accepted no_write =
+    inl refl
+
+pub returns-in-Ok-clause-absent : goal.returns-in-Ok-clause-absent
+returns-in-Ok-clause-absent g c e =
+    absurd (omega arith)
+
+pub returns-in-Ok-clause-read_fault : goal.returns-in-Ok-clause-read_fault
+returns-in-Ok-clause-read_fault g c e =
+    absurd (omega arith)
+
+pub returns-in-Ok-clause-write_fault : goal.returns-in-Ok-clause-write_fault
+returns-in-Ok-clause-write_fault g c e =
+    absurd (omega arith)
 
 pub returns-in-Err-clause-headline : goal.returns-in-Err-clause-headline
 returns-in-Err-clause-headline g c =
@@ -86,9 +136,40 @@ returns-in-Err-clause-headline g c =
     let old = g.O.Out.holds c.args.out.now in
     let new = g.O.Out.holds c.run.new.out in
     let is = c.status.ensures ∙ sym (ap status_after c.in-Err.is) in
+    subst (λ (n : ℕ). Headline ask told n old new) (sym is) c.run.ensures.headline
+
+pub returns-in-Err-clause-bad_words : goal.returns-in-Err-clause-bad_words
+returns-in-Err-clause-bad_words g c =
+    let ask = asked c.args.words.now in
+    let told = g.F.Files.told c.args.files.now in
+    let old = g.O.Out.holds c.args.out.now in
+    let new = g.O.Out.holds c.run.new.out in
+    let is = c.status.ensures ∙ sym (ap status_after c.in-Err.is) in
     let ends = subst (λ (n : ℕ). Ends ask told n old new) (sym is) c.run.ensures.ends in
     let h : Ended ask told c.run.result c.status.result old new = record { is = is; ends = ends; cause = c.run.ensures.cause } in
-    headline ask told c.status.result old new h.ends
+    bad_words told c.run.result c.status.result old new ask h
+
+pub returns-in-Err-clause-bad_query : goal.returns-in-Err-clause-bad_query
+returns-in-Err-clause-bad_query g c =
+    let ask = asked c.args.words.now in
+    let told = g.F.Files.told c.args.files.now in
+    let old = g.O.Out.holds c.args.out.now in
+    let new = g.O.Out.holds c.run.new.out in
+    let is = c.status.ensures ∙ sym (ap status_after c.in-Err.is) in
+    let ends = subst (λ (n : ℕ). Ends ask told n old new) (sym is) c.run.ensures.ends in
+    let h : Ended ask told c.run.result c.status.result old new = record { is = is; ends = ends; cause = c.run.ensures.cause } in
+    λ sql name e. bad_query told c.run.result c.status.result old new sql name (subst (λ (a : Ask). Ended a told c.run.result c.status.result old new) e h)
+
+pub returns-in-Err-clause-bad_explain : goal.returns-in-Err-clause-bad_explain
+returns-in-Err-clause-bad_explain g c =
+    let ask = asked c.args.words.now in
+    let told = g.F.Files.told c.args.files.now in
+    let old = g.O.Out.holds c.args.out.now in
+    let new = g.O.Out.holds c.run.new.out in
+    let is = c.status.ensures ∙ sym (ap status_after c.in-Err.is) in
+    let ends = subst (λ (n : ℕ). Ends ask told n old new) (sym is) c.run.ensures.ends in
+    let h : Ended ask told c.run.result c.status.result old new = record { is = is; ends = ends; cause = c.run.ensures.cause } in
+    λ sql e. bad_explain told c.run.result c.status.result old new sql (subst (λ (a : Ask). Ended a told c.run.result c.status.result old new) e h)
 
 pub returns-in-Err-clause-absent_told : goal.returns-in-Err-clause-absent_told
 returns-in-Err-clause-absent_told g c =
@@ -123,16 +204,34 @@ returns-in-Err-clause-bad_block g c =
     let h : Ended ask told c.run.result c.status.result old new = record { is = is; ends = ends; cause = c.run.ensures.cause } in
     damaged_block c.run.result c.status.result old new ask told h
 
-pub returns-in-Ok-clause-complete : goal.returns-in-Ok-clause-complete
-returns-in-Ok-clause-complete g c rs finds no_read no_write =
+pub returns-in-Err-clause-listing : goal.returns-in-Err-clause-listing
+returns-in-Err-clause-listing g c sql q e accepts open_status =
     let ask = asked c.args.words.now in
     let told = g.F.Files.told c.args.files.now in
     let old = g.O.Out.holds c.args.out.now in
     let new = g.O.Out.holds c.run.new.out in
-    let is = ap status_after c.in-Ok.is in
-    let ends = subst (λ (n : ℕ). Ends ask told n old new) is c.run.ensures.ends in
-    let h : Ended ask told c.run.result 0 old new = record { is = sym is; ends = ends; cause = c.run.ensures.cause } in
-    done_or_memory 0 (λ e. omega arith) (λ e. omega arith) (h.ends (rows rs) finds).allowed
+    let is = c.status.ensures ∙ sym (ap status_after c.in-Err.is) in
+    let ends = subst (λ (n : ℕ). Ends ask told n old new) (sym is) c.run.ensures.ends in
+    let h : Ended ask told c.run.result c.status.result old new = record { is = is; ends = ends; cause = c.run.ensures.cause } in
+    (subst (λ (a : Ask). Ends a told c.status.result old new) e ends).listed q accepts open_status
+
+pub returns-in-Err-clause-ends : goal.returns-in-Err-clause-ends
+returns-in-Err-clause-ends g c =
+    let ask = asked c.args.words.now in
+    let told = g.F.Files.told c.args.files.now in
+    let old = g.O.Out.holds c.args.out.now in
+    let new = g.O.Out.holds c.run.new.out in
+    let is = c.status.ensures ∙ sym (ap status_after c.in-Err.is) in
+    subst (λ (n : ℕ). Ends ask told n old new) (sym is) c.run.ensures.ends
+
+pub returns-in-Err-clause-quiet : goal.returns-in-Err-clause-quiet
+returns-in-Err-clause-quiet g c done write memory =
+    let ask = asked c.args.words.now in
+    let told = g.F.Files.told c.args.files.now in
+    let old = g.O.Out.holds c.args.out.now in
+    let new = g.O.Out.holds c.run.new.out in
+    let is = c.status.ensures ∙ sym (ap status_after c.in-Err.is) in
+    c.run.ensures.quiet (λ e. done (is ∙ e)) (λ e. write (is ∙ e)) (λ e. memory (is ∙ e))
 
 pub returns-in-Err-clause-complete : goal.returns-in-Err-clause-complete
 returns-in-Err-clause-complete g c rs finds no_read no_write =
@@ -143,14 +242,37 @@ returns-in-Err-clause-complete g c rs finds no_read no_write =
     let is = c.status.ensures ∙ sym (ap status_after c.in-Err.is) in
     let ends = subst (λ (n : ℕ). Ends ask told n old new) (sym is) c.run.ensures.ends in
     let h : Ended ask told c.run.result c.status.result old new = record { is = is; ends = ends; cause = c.run.ensures.cause } in
-    done_or_memory c.status.result (λ e. no_read (c.run.ensures.read_fault (refused_by c.run.result ReadFault tt (sym is ∙ e) (λ z. omega arith)))) (λ e. no_write (c.run.ensures.write_fault (refused_by c.run.result WriteFault tt (sym is ∙ e) (λ z. omega arith)))) (h.ends (rows rs) finds).allowed
+    complete told c.status.result old new (λ z. no_read (c.run.ensures.read_fault (sym is ∙ z))) (λ z. no_write (c.run.ensures.write_fault (sym is ∙ z))) rs ask ends finds
 
-pub returns-in-Err-clause-quiet : goal.returns-in-Err-clause-quiet
-returns-in-Err-clause-quiet g c done write memory =
-    quiet_by_status c.run.result c.status.result (g.O.Out.holds c.args.out.now) (g.O.Out.holds c.run.new.out) (c.status.ensures ∙ sym (ap status_after c.in-Err.is)) c.run.ensures.quiet done write memory
+pub returns-in-Err-clause-absent : goal.returns-in-Err-clause-absent
+returns-in-Err-clause-absent g c e =
+    let ask = asked c.args.words.now in
+    let told = g.F.Files.told c.args.files.now in
+    let old = g.O.Out.holds c.args.out.now in
+    let new = g.O.Out.holds c.run.new.out in
+    let is = c.status.ensures ∙ sym (ap status_after c.in-Err.is) in
+    c.run.ensures.absent (sym is ∙ e)
 
-pub returns-in-Err-clause-bad_query : goal.returns-in-Err-clause-bad_query
-returns-in-Err-clause-bad_query g c =
+pub returns-in-Err-clause-read_fault : goal.returns-in-Err-clause-read_fault
+returns-in-Err-clause-read_fault g c e =
+    let ask = asked c.args.words.now in
+    let told = g.F.Files.told c.args.files.now in
+    let old = g.O.Out.holds c.args.out.now in
+    let new = g.O.Out.holds c.run.new.out in
+    let is = c.status.ensures ∙ sym (ap status_after c.in-Err.is) in
+    c.run.ensures.read_fault (sym is ∙ e)
+
+pub returns-in-Err-clause-write_fault : goal.returns-in-Err-clause-write_fault
+returns-in-Err-clause-write_fault g c e =
+    let ask = asked c.args.words.now in
+    let told = g.F.Files.told c.args.files.now in
+    let old = g.O.Out.holds c.args.out.now in
+    let new = g.O.Out.holds c.run.new.out in
+    let is = c.status.ensures ∙ sym (ap status_after c.in-Err.is) in
+    c.run.ensures.write_fault (sym is ∙ e)
+
+pub returns-in-Err-clause-complete_listing : goal.returns-in-Err-clause-complete_listing
+returns-in-Err-clause-complete_listing g c sql e accepted no_write =
     let ask = asked c.args.words.now in
     let told = g.F.Files.told c.args.files.now in
     let old = g.O.Out.holds c.args.out.now in
@@ -158,7 +280,7 @@ returns-in-Err-clause-bad_query g c =
     let is = c.status.ensures ∙ sym (ap status_after c.in-Err.is) in
     let ends = subst (λ (n : ℕ). Ends ask told n old new) (sym is) c.run.ensures.ends in
     let h : Ended ask told c.run.result c.status.result old new = record { is = is; ends = ends; cause = c.run.ensures.cause } in
-    λ sql name e. bad_query told c.run.result c.status.result old new sql name (subst (λ (a : Ask). Ended a told c.run.result c.status.result old new) e h)
+    listed_or_memory c.status.result (λ z. no_write (c.run.ensures.write_fault (sym is ∙ z))) ((subst (λ (a : Ask). Ends a told c.status.result old new) e ends).accepted accepted)
 
 pub returns-in-Err-clause-query_line : goal.returns-in-Err-clause-query_line
 returns-in-Err-clause-query_line g c sql name f e refuses three calm =
@@ -166,4 +288,12 @@ returns-in-Err-clause-query_line g c sql name f e refuses three calm =
     let here = subst (λ (a : Ask). HasItsCause a told c.run.result) e c.run.ensures.cause in
     let cause = subst (λ (r : Result (Unit {0}) Refusal). HasItsCause (query sql name) told r) c.in-Err.is here in
     let line = line_of_query sql name c.unwrap_or.result.now told f c.in-Err.refusal cause refuses (sym c.status.ensures ∙ three) in
+    subst (λ (l : List ℕ). Appends (g.E.Out.holds c.args.err.now) (g.E.Out.holds c.report.new.err) l) line (c.report.ensures calm)
+
+pub returns-in-Err-clause-explain_line : goal.returns-in-Err-clause-explain_line
+returns-in-Err-clause-explain_line g c sql f e refuses three calm =
+    let told = g.F.Files.told c.args.files.now in
+    let here = subst (λ (a : Ask). HasItsCause a told c.run.result) e c.run.ensures.cause in
+    let cause = subst (λ (r : Result (Unit {0}) Refusal). HasItsCause (explain sql) told r) c.in-Err.is here in
+    let line = line_of_explain sql c.unwrap_or.result.now told f c.in-Err.refusal cause refuses (sym c.status.ensures ∙ three) in
     subst (λ (l : List ℕ). Appends (g.E.Out.holds c.args.err.now) (g.E.Out.holds c.report.new.err) l) line (c.report.ensures calm)

@@ -1,0 +1,72 @@
+-- The bytes that a query over a file writes are those of an answer.
+use Rattle.std.proofs.Common.{◌≡◌, ◌≢◌, ℕ, List, [], ◌∷◌, ◌++◌, length, Bool, true, false, eqb, cond, Option, Some, None, refl, sym, subst, ◌∙◌, arith}
+use Rattle.std.proofs.lemmas.Bool.Decides.{nat_tests}
+use Rattle.std.proofs.lemmas.List.{append-nil}
+use Rattle.std.specs.Io.KnownBytes.{Keeps}
+use Rattle.snel_device.specs.Contents.{Contents}
+use Rattle.value_meaning.specs.Val.{Val}
+use Rattle.block_meaning.specs.Tables.{Table}
+use Rattle.block_meaning.specs.Blocks.{IsBlock, block_in}
+use Rattle.block_meaning.proofs.BlockReading.{blocks_read, damaged_none, damaged_count}
+use Rattle.file_meaning.specs.Files.{Entry, IsFile, bytes_at, counted_rows, rows_at, rows_of}
+use Rattle.query_meaning.specs.Tree.{Query}
+use Rattle.query_run.specs.Queries.{Accepts}
+use Rattle.query_run.specs.Headline.{AddsAnswer, Headline}
+use Rattle.query_run.specs.Verdicts.{Verdict, no_block_file, bad_block, rows, EndsAs}
+use Rattle.query_run.specs.Causes.{HasNoBlock, HasBadBlock, FindsInFile, Ends}
+use Rattle.query_run.proofs.Sink.{Keeps-appends}
+use Rattle.query_run.proofs.Verdicts.{adds_nothing}
+use Rattle.query_run.proofs.OneBlock.{field_is_empty, one_is_there}
+
+-- a sink that kept what it held took the beginning of every answer
+nothing_added : (sql : List ℕ) (q : Query) → Accepts sql q → (rs : List Val) (status : ℕ) (old new : Option (List ℕ)) → (status ≡ 0 → ⊥) → Keeps old new → AddsAnswer q rs status old new
+nothing_added sql q taken rs status old new other keeps = adds_nothing sql q taken rs status old new other (Keeps-appends old new keeps)
+
+module _ (sql name bytes : List ℕ) (files : Contents) (status : ℕ) (old new : Option (List ℕ)) (q : Query) (taken : Accepts sql q) (is : files name ≡ Some bytes) (ends : Ends sql (Some files) name status old new) where
+  in_file : (v : Verdict) → FindsInFile (Some bytes) v → FindsInFile (files name) v
+  in_file v f = let P : Option (List ℕ) → Type 0 = λ o. FindsInFile o v in subst P (sym is) f
+
+  no_block : (rs : List Val) → HasNoBlock bytes → AddsAnswer q rs status old new
+  no_block rs none =
+      let e : EndsAs sql no_block_file status old new = ends no_block_file ((q, taken), in_file no_block_file none) in
+      let allowed = e.allowed in
+      nothing_added sql q taken rs status old new (λ z. let bad = rw z at allowed in cc) e.wrote
+
+  bad : (rs : List Val) → HasBadBlock bytes → AddsAnswer q rs status old new
+  bad rs damaged =
+      let e : EndsAs sql bad_block status old new = ends bad_block ((q, taken), in_file bad_block damaged) in
+      let allowed = e.allowed in
+      nothing_added sql q taken rs status old new (λ z. let no = rw z at allowed in cc) e.wrote
+
+  good : (e : Entry) (table : Table) (rs : List Val) → IsFile bytes [] (e ∷ []) → IsBlock table rs (bytes_at e bytes) → length rs ≡ e.rows → AddsAnswer q rs status old new
+  good e table rs file block count = (ends (rows rs) ((q, taken), in_file (rows rs) (e, file, (table, block, count)))).wrote q taken
+
+  one : (e : Entry) → IsFile bytes [] (e ∷ []) → AddsAnswer q (rows_of (e ∷ []) bytes) status old new
+  unfolding rows_at
+  one e file = go (block_in (bytes_at e bytes)) refl
+    where
+      counted : (b : Table × List Val) (t : Bool) → block_in (bytes_at e bytes) ≡ Some b → eqb (length b.1) e.rows ≡ t → AddsAnswer q (cond t b.1 [] ++ []) status old new
+      counted b true read same =
+          let count : length b.1 ≡ e.rows = grind (arith, nat_tests) in
+          let block : IsBlock b.0 b.1 (bytes_at e bytes) = (blocks_read b.0 b.1 (bytes_at e bytes)).0 read in
+          subst (λ (l : List Val). AddsAnswer q l status old new) (sym (append-nil b.1)) (good e b.0 b.1 file block count)
+      counted b false read other =
+          let count : length b.1 ≢ e.rows = λ c. let no : true ≡ false = sym (grind (arith, nat_tests)) ∙ other in cc in
+          bad [] (e, file, damaged_count e.rows (bytes_at e bytes) b.0 b.1 read count)
+
+      go : (o : Option (Table × List Val)) → block_in (bytes_at e bytes) ≡ o → AddsAnswer q (counted_rows e.rows (block_in (bytes_at e bytes)) ++ []) status old new
+      go None read = rw read (bad [] (e, file, damaged_none e.rows (bytes_at e bytes) read))
+      go (Some b) read = rw read (counted b (eqb (length b.1) e.rows) read refl)
+
+  pub answered : (field : List ℕ) (entries : List Entry) → IsFile bytes field entries → AddsAnswer q (rows_of entries bytes) status old new
+  answered field [] file = no_block _ (one_is_there bytes field [] file (λ z. omega arith))
+  answered [] (e ∷ []) file = one e file
+  answered (c ∷ cs) (e ∷ []) file = no_block _ (field_is_empty bytes (c ∷ cs) (e ∷ []) file (λ z. omega arith))
+  answered field (d ∷ e ∷ es) file = no_block _ (one_is_there bytes field (d ∷ e ∷ es) file (λ z. omega arith))
+
+pub headline : (sql name : List ℕ) (told : Option Contents) (status : ℕ) (old new : Option (List ℕ)) → Ends sql told name status old new → Headline sql name told status old new
+headline sql name told status old new ends = record {
+  answers = λ bytes field entries files q taken tells has file.
+      let here : Ends sql (Some files) name status old new = subst (λ (t : Option Contents). Ends sql t name status old new) tells ends in
+      answered sql name bytes files status old new q taken has here field entries file;
+}

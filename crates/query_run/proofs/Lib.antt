@@ -1,0 +1,9 @@
+mod Forms
+mod Sink
+mod Verdicts
+pub mod Built
+mod OneBlock
+mod BlockEnds
+mod Headlines
+mod Counting
+mod Explaining
