@@ -40,7 +40,11 @@ pub(crate) fn not(alloc: Global, of: Expr) -> Result<Expr, OutOfMemory>
 }
 
 /// `SELECT outputs FROM t WHERE filter`
-pub(crate) fn query(alloc: Global, outputs: Outputs, filter: Option<Expr>) -> Result<Query, OutOfMemory>
+pub(crate) fn query(
+    alloc: Global,
+    outputs: Outputs,
+    filter: Option<Expr>,
+) -> Result<Query, OutOfMemory>
     requires outputs { AreOutputs (outs_view outputs) }
     requires filter { IfSome (option_map view filter) IsFormed }
     ensures { IfOk result (λ q. IsWellFormed (query_view q)) }

@@ -109,7 +109,11 @@ out \"x\" r14
 #[test]
 fn lowers_outputs_under_the_mask_of_where(rt: HostRuntime) -> Result<(), Fail> {
     let alloc = rt.alloc();
-    let asked = query(alloc, Outputs::Named(two_outputs(alloc)?), Some(filter(alloc)?))?;
+    let asked = query(
+        alloc,
+        Outputs::Named(two_outputs(alloc)?),
+        Some(filter(alloc)?),
+    )?;
     let text = listed(alloc, asked)?;
     assert_eq!(rt; text.as_slice(), FILTERED.as_bytes());
     Ok(())

@@ -1,4 +1,4 @@
-use Rattle.std.proofs.Common.{◌≡◌, ap, sym, subst, ◌∙◌, arith, IfOk}
+use Rattle.std.proofs.Common.{ap, sym, subst, ◌∙◌, arith, IfOk}
 use Rattle.query_meaning.specs.Tree.{size, no, bin, is}
 use Rattle.query_meaning.specs.WellFormed.{IsFormed}
 use Rattle.program_meaning.specs.Instructions.{negation, asks, binary}

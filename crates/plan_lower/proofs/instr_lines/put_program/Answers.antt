@@ -1,4 +1,4 @@
-use Rattle.std.proofs.Common.{◌≡◌, ◌+◌, ◌++◌, ◌<◌, map, length, ap, sym, ◌∙◌, cond, arith}
+use Rattle.std.proofs.Common.{◌≡◌, ◌+◌, ◌++◌, ◌<◌, map, length, ap, ◌∙◌, cond, arith}
 use Rattle.std.proofs.lemmas.List.{length-map}
 use Rattle.program_meaning.specs.Programs.{makes_mask}
 use Rattle.lane_ssa.specs.Views.{instr_view}
@@ -16,8 +16,7 @@ loop-at-preserved c =
     let at = c.loop-at.at in
     let masks = c.loop-at.masks in
     let inside : at < length xs = omega (arith, c.loop-at-test.true, length-map c.args.instrs.now instr_view) in
-    let flag : c.from-masks.result ≡ cond (makes_mask x) 1 0 = c.from-masks.ensures ∙ ap (λ b. cond b 1 0) c.makes_mask.ensures in
-    (
+    let flag : c.masks_of-masks.result ≡ cond (makes_mask x) 1 0 = c.masks_of-masks.ensures in (
       ap (λ n. masks + n) flag ∙ mask_more xs at x c.instr_at-instr.ensures masks c.loop-at.invariant.0,
       rw flag (mask_within xs at x c.instr_at-instr.ensures masks c.loop-at.invariant.0 inside),
       program_more xs at x c.instr_at-instr.ensures masks c.loop-at.invariant.0 c.args.text.now c.loop-at.text c.put_line.new.text inside c.loop-at.invariant.2 c.in_ok-put_line.ensures,

@@ -1,4 +1,4 @@
-use Rattle.std.proofs.Common.{◌≡◌, ap, sym, subst, IfOk, Some}
+use Rattle.std.proofs.Common.{sym, subst, IfOk}
 use Rattle.std.specs.Option.{option_map}
 use Rattle.sql_tree.specs.View.{view}
 use Rattle.plan_lower.specs.Emitting.{Keeps}

@@ -14,8 +14,7 @@ emit_expr-requires-clause-formed c = (all_at IsOutput c.args.items.now c.loop-at
 pub loop-at-preserved : goal.loop-at-preserved
 loop-at-preserved c =
     let name = c.in_ok-name.name in
-    let register = c.in_ok-register.register in
-    (
+    let register = c.in_ok-register.register in (
       named_more c.loop-at.outs c.push.new.self c.args.names.now c.loop-at.at name register (rw c.in_ok-name.ensures c.name_at.ensures) c.in_ok-push.ensures.ok c.loop-at.invariant.0,
       outputs_more c.args.builder.now c.loop-at.builder c.emit_expr.new.builder c.loop-at.outs c.push.new.self c.args.items.now c.loop-at.at c.args.mask register (item_view c.item_at.result.now) name c.requires.mask c.item_at.ensures c.in_ok-push.ensures.ok c.loop-at.invariant.1 c.in_ok-register.ensures,
     )

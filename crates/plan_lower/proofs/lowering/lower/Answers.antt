@@ -1,4 +1,4 @@
-use Rattle.std.proofs.Common.{◌≡◌, ap, sym, subst, ◌∙◌, [], ◌∷◌, ◌++◌}
+use Rattle.std.proofs.Common.{ap, sym, subst, ◌∙◌, [], ◌∷◌, ◌++◌}
 use Rattle.query_meaning.specs.Tree.{Query}
 use Rattle.check_meaning.specs.Names.{names}
 use Rattle.program_meaning.specs.Instructions.{all}
