@@ -6,9 +6,11 @@ ghost use Rattle.answer_meaning.specs.Lines.{print};
 ghost use Rattle.lane_ssa.specs.Bound.{IsBound};
 ghost use Rattle.lane_ssa.specs.ChunksOf.{rows_from};
 ghost use Rattle.lane_ssa.specs.Counts.{counted};
+ghost use Rattle.block_lines.specs.HeadTexts.{AreHeads};
 ghost use Rattle.block_lines.specs.Ran.{HasRunOver};
 ghost use Rattle.block_lines.specs.RowLines.{keeps, job_outputs};
 
+use crate::heads::LineHeads;
 use crate::lines::append_line;
 use block_file::Block;
 use lane_ssa::Frame;
@@ -17,17 +19,19 @@ use snel_values::{Bytes, OutOfMemory};
 /// Adds the lines of the rows that passed in the chunk from `first` on that the frame ran over.
 fn append_lanes<'b>(
     into: &mut Bytes,
+    heads: &LineHeads,
     frame: &Frame<'b>,
     block: &Block<'b>,
     first: u32,
 ) -> Result<(), OutOfMemory>
+    requires heads { AreHeads frame.now.job.ends.outs heads.now }
     requires ran { HasRunOver block.now.0 (rows_from first block.now.1) frame.now }
     ensures { OnOk result (into.new ≡ into.old ++ print (job_outputs frame.now.job (rows_from first block.now.1))) }
 {
     let kept = frame.kept();
     for lane in 0..16u32 {
         if kept.has(lane) {
-            append_line(into, frame, block, first, lane)?;
+            append_line(into, heads, frame, block, first, lane)?;
         }
     }
     Ok(())
@@ -36,10 +40,12 @@ fn append_lanes<'b>(
 /// Runs the chunk from `first` on, adds the lines of its rows that pass, and says how many they are.
 pub(crate) fn append_chunk<'b>(
     into: &mut Bytes,
+    heads: &LineHeads,
     frame: &mut Frame<'b>,
     block: &Block<'b>,
     first: u32,
 ) -> Result<u32, OutOfMemory>
+    requires heads { AreHeads frame.old.job.ends.outs heads.now }
     requires bound { IsBound block.now.0 frame.old.job.program frame.old.symbols }
     requires within { first < length block.now.1 }
     requires whole { first % 16 ≡ 0 }
@@ -52,6 +58,6 @@ pub(crate) fn append_chunk<'b>(
 {
     let chunk = block.chunk(first);
     frame.run_chunk(block, &chunk);
-    append_lanes(into, frame, block, first)?;
+    append_lanes(into, heads, frame, block, first)?;
     Ok(frame.kept().count())
 }

@@ -4,6 +4,7 @@
 
 mod chunks;
 mod fault;
+mod heads;
 mod lines;
 mod pairs;
 #[cfg(test)]
@@ -11,5 +12,5 @@ mod tests;
 mod writing;
 
 pub use fault::LinesFault;
-pub use pairs::{append_look, append_pair};
+pub use pairs::append_look;
 pub use writing::write_lines;

@@ -1,14 +1,13 @@
 //! The values of lanes as JSON.
 
-ghost use Rattle.std.specs.Prelude.{◌≡◌, ◌∷◌, ◌++◌, OnOk};
-ghost use Rattle.json.specs.Print.{quoted};
-ghost use Rattle.answer_meaning.specs.Lines.{comma_if, value_text};
+ghost use Rattle.std.specs.Prelude.{◌≡◌, ◌++◌, OnOk};
+ghost use Rattle.answer_meaning.specs.Lines.{value_text};
 ghost use Rattle.lane_base.specs.Shown.{value_under, IsLegal};
 ghost use Rattle.lane_base.specs.Registers.{seen};
 
 use ion_cells::Cell;
 use ion_symtab::SymTab;
-use json_out::{put_number, put_quoted, put_quoted_bytes, put_quoted_time, put_value};
+use json_out::{put_number, put_quoted_bytes, put_quoted_time, put_value};
 use lane_base::Look;
 use snel_values::{Bytes, OutOfMemory};
 
@@ -28,24 +27,4 @@ pub fn append_look(into: &mut Bytes, table: &SymTab<'_>, look: Look<'_>) -> Resu
         Look::Text(bytes) => put_quoted_bytes(into, bytes),
         Look::Tree(bytes) => put_value(into, table, &Cell::of_bytes(bytes, table.last())),
     }
-}
-
-/// Adds a pair of the name and the value that a lane shows under the symbol table, behind a comma where a pair stands before.
-/// For want of memory a part of it may be added.
-pub fn append_pair(
-    into: &mut Bytes,
-    name: &str,
-    later: bool,
-    table: &SymTab<'_>,
-    look: Look<'_>,
-) -> Result<(), OutOfMemory>
-    requires { IsLegal table.now (seen look) }
-    ensures { OnOk result (into.new ≡ into.old ++ (comma_if later ++ (quoted name.now ++ 58 ∷ value_text (value_under table.now (seen look.entry))))) }
-{
-    if later {
-        into.push_all(b",")?;
-    }
-    put_quoted(into, name)?;
-    into.push_all(b":")?;
-    append_look(into, table, look)
 }

@@ -15,6 +15,7 @@ ghost use Rattle.block_lines.specs.Written.{Writes};
 
 use crate::chunks::append_chunk;
 use crate::fault::LinesFault;
+use crate::heads::LineHeads;
 use block_file::Block;
 use lane_ssa::Frame;
 use snel_device::{Failed, Out};
@@ -43,8 +44,8 @@ fn put_from<O: Out>(lines: &mut Bytes, least: usize, out: &mut O) -> Result<(), 
 /// at the end.
 ///
 /// What is written is what a query that the job simulates makes of the rows, where the query isn't grouped. The frame counts
-/// each chunk and each row that passes. `WriteFault` comes only where a put failed, `OutOfMemory` where the lines that are
-/// gathered found no room; then a front of the lines was written.
+/// each chunk and each row that passes. `WriteFault` comes only where a put failed, `OutOfMemory` where the outputs' names in
+/// quotes or the lines that are gathered found no room; then a front of the lines was written.
 pub fn write_lines<'b, O: Out>(
     alloc: Global,
     frame: &mut Frame<'b>,
@@ -60,13 +61,16 @@ pub fn write_lines<'b, O: Out>(
     ensures job { frame.new.job ≡ frame.old.job }
     ensures fault { HasCause (O.faults out.old) (O.faults out.new) (IsErrOf result LinesFault.WriteFault) }
 {
+    let Ok(heads) = LineHeads::of(alloc, &frame.job().ends().outs) else {
+        return Err(LinesFault::OutOfMemory);
+    };
     frame.bind(block.table());
     block.know();
     let mut lines = Bytes::new(alloc);
     let mut count = 0u64;
     let mut first = 0;
     while first < block.rows() {
-        let Ok(kept) = append_chunk(&mut lines, frame, block, first) else {
+        let Ok(kept) = append_chunk(&mut lines, &heads, frame, block, first) else {
             return Err(LinesFault::OutOfMemory);
         };
         let Ok(()) = put_from(&mut lines, 65_536, out) else {

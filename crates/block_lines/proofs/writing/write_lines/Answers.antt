@@ -34,12 +34,17 @@ loop-first-init g c =
 
 pub returns-in_default-clause-written : goal.returns-in_default-clause-written
 returns-in_default-clause-written g c q simulates single =
+    writes_answer (Err OutOfMemory) c.args.frame.now.job q simulates single c.args.block.now.1 _ _ (left_off OutOfMemory _ _ _ _ _ (underway_at_first _ (print (job_outputs c.args.frame.now.job c.args.block.now.1))))
+
+pub returns-in_default-append_chunk-clause-written :
+    goal.returns-in_default-append_chunk-clause-written
+returns-in_default-append_chunk-clause-written g c q simulates single =
     writes_answer (Err OutOfMemory) c.args.frame.now.job q simulates single c.args.block.now.1 _ _ (left_off OutOfMemory _ _ c.loop-first.lines _ _ c.loop-first.invariant.underway)
 
 pub returns-in_default-put_from-clause-written : goal.returns-in_default-put_from-clause-written
 returns-in_default-put_from-clause-written g c q simulates single =
     let first = c.loop-first.first in
-    let text = c.in-Ok.ensures.text ∙ ap (λ (j : Job). c.loop-first.lines ++ print (job_outputs j (rows_from first c.args.block.now.1))) c.loop-first.invariant.job in
+    let text = c.in-Ok-append_chunk.ensures.text ∙ ap (λ (j : Job). c.loop-first.lines ++ print (job_outputs j (rows_from first c.args.block.now.1))) c.loop-first.invariant.job in
     let filled = chunk_filled _ _ c.args.frame.now.job first c.args.block.now.1 c.loop-first.lines c.append_chunk.new.into _ c.loop-first.invariant.underway text in
     let cut = c.in_default-put_from.ensures.cut in
     writes_answer (Err WriteFault) c.args.frame.now.job q simulates single c.args.block.now.1 _ _ (cut_short WriteFault _ _ _ cut.0 c.append_chunk.new.into _ _ filled cut.1)
@@ -48,8 +53,8 @@ pub overflow_add-count : goal.overflow_add-count
 overflow_add-count g c =
     let first = c.loop-first.first in
     let few = kept_few c.args.frame.now.job c.args.block.now.1 in
-    let lines : c.in-Ok.kept ≡ length (filter (keeps c.args.frame.now.job) (rows_from first c.args.block.now.1)) =
-    c.in-Ok.ensures.lines ∙ ap (λ (j : Job). length (filter (keeps j) (rows_from first c.args.block.now.1))) c.loop-first.invariant.job in
+    let lines : c.in-Ok-append_chunk.kept ≡ length (filter (keeps c.args.frame.now.job) (rows_from first c.args.block.now.1)) =
+    c.in-Ok-append_chunk.ensures.lines ∙ ap (λ (j : Job). length (filter (keeps j) (rows_from first c.args.block.now.1))) c.loop-first.invariant.job in
     omega (arith, few, lines, c.from-count.ensures, c.know.ensures.few, c.loop-first.invariant.lines, counts_split c.args.frame.now.job first c.args.block.now.1)
 
 pub loop-first-preserved : goal.loop-first-preserved
@@ -59,8 +64,8 @@ loop-first-preserved g c =
     let job = c.args.frame.now.job in
     let h = c.loop-first.invariant in
     let e = c.append_chunk.ensures in
-    let text = c.in-Ok.ensures.text ∙ ap (λ (j : Job). c.loop-first.lines ++ print (job_outputs j (rows_from first rows))) h.job in
-    let lines : c.in-Ok.kept ≡ length (filter (keeps job) (rows_from first rows)) = c.in-Ok.ensures.lines ∙ ap (λ (j : Job). length (filter (keeps j) (rows_from first rows))) h.job in
+    let text = c.in-Ok-append_chunk.ensures.text ∙ ap (λ (j : Job). c.loop-first.lines ++ print (job_outputs j (rows_from first rows))) h.job in
+    let lines : c.in-Ok-append_chunk.kept ≡ length (filter (keeps job) (rows_from first rows)) = c.in-Ok-append_chunk.ensures.lines ∙ ap (λ (j : Job). length (filter (keeps j) (rows_from first rows))) h.job in
     let count : c.from-count.result ≡ length (filter (keeps job) (rows_from first rows)) = omega (arith, lines, c.from-count.ensures) in
     let kept : c.append_chunk.new.frame.kept ≡ counted c.loop-first.frame.kept c.from-count.result =
     e.kept ∙ ap (λ (j : Job). counted c.loop-first.frame.kept (length (filter (keeps j) (rows_from first rows)))) h.job ∙ ap (counted c.loop-first.frame.kept) (sym count) in
