@@ -23,7 +23,9 @@ use std::{env, rt};
 fn words_of<R: rt::Env + AllocGlobal>(rt: &R) -> Result<Words, Refusal> {
     let args = match env::args(rt) {
         Ok(args) => args,
-        Err(e) if e.kind() == ErrorKind::OutOfMemory => return Err(Refusal::Query(QueryFault::OutOfMemory)),
+        Err(e) if e.kind() == ErrorKind::OutOfMemory => return Err(Refusal::Query(
+            QueryFault::OutOfMemory,
+        )),
         Err(_) => return Err(Refusal::Words),
     };
     let mut words = Words::new(rt.alloc());
