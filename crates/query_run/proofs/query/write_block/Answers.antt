@@ -16,7 +16,7 @@ returns-in-Err-WriteFault-clause-written g c q simulates lowered =
     let own = subst (λ (j : Job). Simulates j q) (sym c.in-Ok.ensures.job) simulates in
     as_cut c.write_lines.result WriteFault _ _ _ (c.write_lines.ensures.written q own (is_ungrouped q lowered))
 
-pub returns-in-Err-OutOfMemory-clause-written : goal.returns-in-Err-OutOfMemory-clause-written
-returns-in-Err-OutOfMemory-clause-written g c q simulates lowered =
+pub returns-clause-written : goal.returns-clause-written
+returns-clause-written g c q simulates lowered =
     let own = subst (λ (j : Job). Simulates j q) (sym c.in-Ok.ensures.job) simulates in
     as_cut c.write_lines.result OutOfMemory _ _ _ (c.write_lines.ensures.written q own (is_ungrouped q lowered))
