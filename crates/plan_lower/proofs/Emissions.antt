@@ -6,7 +6,7 @@ use Rattle.value_meaning.specs.Val.{Val}
 use Rattle.query_meaning.specs.Tree.{Step, Ex, lit}
 use Rattle.eval_meaning.specs.Evaluation.{eval}
 use Rattle.eval_meaning.specs.Paths.{step_of, path_of}
-use Rattle.program_meaning.specs.Instructions.{One, Two, Source, row, literal, of_one, of_two, Instr, holding, make}
+use Rattle.program_meaning.specs.Instructions.{One, Two, row, literal, of_one, of_two, Instr, holding, make}
 use Rattle.program_meaning.specs.Programs.{mask_count, number_after}
 use Rattle.program_meaning.specs.Registers.{one_of, two_of}
 use Rattle.plan_lower.specs.Emitting.{Computes, Emits, EmitsAll, Applies, Keeps}

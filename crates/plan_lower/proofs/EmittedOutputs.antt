@@ -1,9 +1,9 @@
 -- Outputs, one behind the other.
-use Rattle.std.proofs.Common.{◌≡◌, ℕ, ◌+◌, ◌<◌, refl, ap, sym, ◌∙◌, arith, List, [], ◌∷◌, ◌++◌, map, All}
+use Rattle.std.proofs.Common.{◌≡◌, ℕ, ◌<◌, refl, ap, sym, ◌∙◌, List, [], ◌∷◌, ◌++◌, map, All}
 use Rattle.std.proofs.lemmas.List.{map-append}
 use Rattle.std.proofs.lemmas.List.Elements.{All-push}
 use Rattle.std.proofs.Math.ListN.{get_or}
-use Rattle.value_meaning.specs.Val.{Val, missing}
+use Rattle.value_meaning.specs.Val.{Val}
 use Rattle.query_meaning.specs.Tree.{Ex}
 use Rattle.eval_meaning.specs.Evaluation.{eval}
 use Rattle.program_meaning.specs.Instructions.{Instr}
@@ -31,10 +31,10 @@ emits_more old mid new es e m rs r known h k =
       extends = extends_further old mid new h.extends k.extends;
       made = All-push (λ (r : ℕ). r < value_count new) rs r (all_known mid new rs k.extends h.made) k.made;
       values = λ l.
-      let shown : Ex → Val = (λ e. within (mask_at (after l old) m) (eval e l.row)) in
-      map-append (λ r. value_at (after l new) r) rs (r ∷ [])
-      ∙ ap2 (λ (vs : List Val) (v : Val). vs ++ v ∷ [])
-      (values_stay l mid new rs k.extends h.made ∙ h.values l)
-      (k.value l ∙ ap (λ c. within c (eval e l.row)) (mask_stays l old mid m h.extends known))
-      ∙ sym (map-append shown es (e ∷ []));
+          let shown : Ex → Val = (λ e. within (mask_at (after l old) m) (eval e l.row)) in
+          map-append (λ r. value_at (after l new) r) rs (r ∷ [])
+          ∙ ap2 (λ (vs : List Val) (v : Val). vs ++ v ∷ [])
+          (values_stay l mid new rs k.extends h.made ∙ h.values l)
+          (k.value l ∙ ap (λ c. within c (eval e l.row)) (mask_stays l old mid m h.extends known))
+          ∙ sym (map-append shown es (e ∷ []));
     }

@@ -1,14 +1,13 @@
 -- The steps of emitting an expression.
-use Rattle.std.proofs.Common.{◌≡◌, ℕ, ◌+◌, ◌<◌, refl, ap, sym, ◌∙◌, arith, Bool, true, false, cond, not, ◌&&◌, List, [], ◌∷◌, ◌++◌, Option, Some, None, Result, Ok, Err, IfOk}
+use Rattle.std.proofs.Common.{◌≡◌, ℕ, ◌+◌, ◌<◌, refl, ap, ◌∙◌, arith, Bool, true, false, cond, ◌&&◌, List, [], ◌∷◌, ◌++◌, Some, None, Result, Ok, Err, IfOk}
 use Rattle.std.proofs.lemmas.List.Sums.{sum_by-append}
-use Rattle.value_meaning.specs.Val.{Val, missing, null, truth, int, time, text, list, struct}
+use Rattle.value_meaning.specs.Val.{Val}
 use Rattle.query_meaning.specs.Tree.{Ex}
 use Rattle.eval_meaning.specs.Logic.{is_true}
 use Rattle.eval_meaning.specs.Evaluation.{eval}
-use Rattle.program_meaning.specs.Instructions.{One, Two, Source, row, literal, of_one, of_two, Instr, all, holding, make}
+use Rattle.program_meaning.specs.Instructions.{One, Two, Source, row, literal, of_one, of_two, Instr, holding, make}
 use Rattle.program_meaning.specs.Programs.{makes_mask, makes_value, mask_count, value_count, number_after, Extends}
 use Rattle.program_meaning.specs.Registers.{Lane, after, mask_at, value_at, within, one_of, two_of, source_of}
-use Rattle.program_meaning.specs.Simulation.{is_kept}
 use Rattle.program_meaning.proofs.Programs.{mask_count-push, value_count-push}
 use Rattle.program_meaning.proofs.Persist.{extends_itself, extends_further, extends_by_one, mask_stays, value_stays, mask_made, value_made}
 use Rattle.plan_lower.specs.Emitting.{Computes, Emits, Applies, Keeps}
@@ -81,9 +80,9 @@ module _ (old : List Instr) (m : ℕ) (known : m < mask_count old) where
         extends = extends_further old mid new h.extends k.extends;
         made = k.made;
         value = λ l.
-        k.value l
-        ∙ ap2 (λ b v. within b (g v)) (mask_stays l old mid m h.extends known) (h.value l)
-        ∙ within_one g (mask_at (after l old) m) (f l.row);
+            k.value l
+            ∙ ap2 (λ b v. within b (g v)) (mask_stays l old mid m h.extends known) (h.value l)
+            ∙ within_one g (mask_at (after l old) m) (f l.row);
       }
 
   pub applied_one : (mid new : List Instr) (f : Val → Val) (g : One) (a r : ℕ) → Computes old mid f m a → IsMadeLast mid new m (of_one g a) r → Computes old new (λ v. one_of g (f v)) m r
@@ -98,12 +97,12 @@ module _ (old : List Instr) (m : ℕ) (known : m < mask_count old) where
         extends = extends_further old end new to_end last.extends;
         made = last.made;
         value = λ l.
-        let inside = mask_at (after l old) m in
-        let first : value_at (after l end) a ≡ within inside (f l.row) = value_stays l mid end a k.extends h.made ∙ h.value l in
-        let second : value_at (after l end) b ≡ within inside (g l.row) = k.value l ∙ ap (λ c. within c (g l.row)) (mask_stays l old mid m h.extends known) in
-        last.value l
-        ∙ ap2 within (mask_stays l old end m to_end known) (ap2 (two_of t) first second)
-        ∙ within_two (two_of t) inside (f l.row) (g l.row);
+            let inside = mask_at (after l old) m in
+            let first : value_at (after l end) a ≡ within inside (f l.row) = value_stays l mid end a k.extends h.made ∙ h.value l in
+            let second : value_at (after l end) b ≡ within inside (g l.row) = k.value l ∙ ap (λ c. within c (g l.row)) (mask_stays l old mid m h.extends known) in
+            last.value l
+            ∙ ap2 within (mask_stays l old end m to_end known) (ap2 (two_of t) first second)
+            ∙ within_two (two_of t) inside (f l.row) (g l.row);
       }
 
 true_within : (b : Bool) (v : Val) → (b && is_true (within b v)) ≡ (b && is_true v)
@@ -118,10 +117,10 @@ keeps_holding old mid new e m a k known h p n =
       extends = extends_further old mid new h.extends (extends_by_one mid new (holding m a) p);
       made = omega (arith, n, more);
       mask = λ l.
-      ap (mask_at (after l new)) n
-      ∙ mask_made l mid new (holding m a) _ p refl
-      ∙ ap2 (λ b v. b && is_true v) (mask_stays l old mid m h.extends known) (h.value l)
-      ∙ true_within (mask_at (after l old) m) (eval e l.row);
+          ap (mask_at (after l new)) n
+          ∙ mask_made l mid new (holding m a) _ p refl
+          ∙ ap2 (λ b v. b && is_true v) (mask_stays l old mid m h.extends known) (h.value l)
+          ∙ true_within (mask_at (after l old) m) (eval e l.row);
     }
 
 and_true : (b : Bool) → b ≡ (b && true)

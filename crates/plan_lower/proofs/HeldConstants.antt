@@ -1,7 +1,7 @@
 -- Each literal of a program is a constant.
-use Rattle.std.proofs.Common.{◌≡◌, ℕ, zero, suc, ◌+◌, ◌<◌, List, [], ◌∷◌, Some, cond, subst}
+use Rattle.std.proofs.Common.{◌≡◌, ℕ, zero, suc, ◌+◌, List, [], ◌∷◌, Some, cond, subst}
 use Rattle.std.specs.Prelude.{slice_get}
-use Rattle.program_meaning.specs.Instructions.{Source, row, literal, of_one, of_two, Instr, all, holding, make}
+use Rattle.program_meaning.specs.Instructions.{row, literal, of_one, of_two, Instr, all, holding, make}
 use Rattle.program_meaning.specs.Programs.{makes_mask, IsInstruction, IsProgramFrom, IsProgram}
 use Rattle.plan_lower.specs.Constants.{HasConstant}
 use Rattle.plan_lower.proofs.Items.{some_is}

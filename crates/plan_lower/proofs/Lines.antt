@@ -1,12 +1,12 @@
 -- Lines, one behind the other.
-use Rattle.std.proofs.Common.{◌≡◌, ℕ, zero, suc, ◌+◌, ◌<◌, ◌≤◌, refl, ap, sym, ◌∙◌, arith, Bool, true, false, cond, not, List, [], ◌∷◌, ◌++◌, map, take, length, length-take, ◌-◌, Option, Some, None, append-nil}
+use Rattle.std.proofs.Common.{◌≡◌, ℕ, zero, suc, ◌+◌, ◌<◌, ◌≤◌, refl, ap, sym, ◌∙◌, arith, Bool, true, false, cond, not, List, [], ◌∷◌, ◌++◌, take, length, length-take, ◌-◌, Some, append-nil}
 use Rattle.std.proofs.lemmas.List.{flat_map_more}
 use Rattle.std.proofs.lemmas.List.Sums.{sum_by-cons}
 use Rattle.std.specs.Prelude.{slice_get}
 use Rattle.std.specs.List.{enumerate_from, flat_map}
 use Rattle.program_meaning.specs.Instructions.{Instr}
 use Rattle.program_meaning.specs.Programs.{makes_mask, makes_value, mask_count, value_count}
-use Rattle.program_meaning.proofs.Programs.{mask_count-push, value_count-push}
+use Rattle.program_meaning.proofs.Programs.{mask_count-push}
 use Rattle.plan_lower.specs.Listing.{instr_line, program_text}
 use Rattle.plan_lower.proofs.Items.{some_is, take_more, whole}
 use Rattle.plan_lower.proofs.EmittedValues.{ap2}

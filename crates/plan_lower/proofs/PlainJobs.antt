@@ -1,23 +1,23 @@
 -- From the registers of a program to what a job shows.
-use Rattle.std.proofs.Common.{◌≡◌, ℕ, zero, suc, ◌+◌, ◌<◌, ◌≤◌, Bool, true, false, cond, ◌&&◌, List, [], ◌∷◌, ◌++◌, map, take, drop, length, All, Option, Some, None, refl, ap, sym, subst, ◌∙◌, arith}
-use Rattle.std.specs.Prelude.{slice_get, if◌then◌else◌}
-use Rattle.std.proofs.Math.ListN.{get_or, get_or-map}
+use Rattle.std.proofs.Common.{◌≡◌, ℕ, zero, suc, ◌+◌, ◌<◌, Bool, true, false, ◌&&◌, List, [], ◌∷◌, map, take, drop, All, Option, Some, None, refl, ap, sym, subst, ◌∙◌, arith}
+use Rattle.std.specs.Prelude.{slice_get}
+use Rattle.std.proofs.Math.ListN.{get_or-map}
 use Rattle.std.proofs.lemmas.List.{length-map}
-use Rattle.value_meaning.specs.Val.{Val, missing}
-use Rattle.query_meaning.specs.Tree.{Ex, Outs, star, named, Query}
+use Rattle.value_meaning.specs.Val.{Val}
+use Rattle.query_meaning.specs.Tree.{Ex, Query}
 use Rattle.check_meaning.specs.Names.{names}
 use Rattle.check_meaning.specs.Places.{output_exs}
-use Rattle.check_meaning.specs.Aggregates.{is_grouped, aggregates}
+use Rattle.check_meaning.specs.Aggregates.{is_grouped}
 use Rattle.eval_meaning.specs.Evaluation.{eval}
 use Rattle.program_meaning.specs.Instructions.{Instr, all}
-use Rattle.program_meaning.specs.Programs.{mask_count, value_count, Extends, IsProgram}
-use Rattle.program_meaning.specs.Registers.{Lane, lane_of, State, empty, after, mask_at, value_at, within, HasRun}
-use Rattle.program_meaning.specs.Jobs.{Ends, Job, AreEnds, IsJob}
-use Rattle.program_meaning.specs.Simulation.{is_star, is_kept, passes, if_ungrouped, if_grouped, order_exs, operand_on, ShowsNamed, Simulates}
-use Rattle.program_meaning.proofs.Persist.{extends_further, mask_stays}
+use Rattle.program_meaning.specs.Programs.{mask_count, value_count, IsProgram}
+use Rattle.program_meaning.specs.Registers.{Lane, lane_of, State, after, mask_at, value_at, within, HasRun}
+use Rattle.program_meaning.specs.Jobs.{Job, AreEnds}
+use Rattle.program_meaning.specs.Simulation.{is_star, is_kept, passes, ShowsNamed, Simulates}
+use Rattle.program_meaning.proofs.Persist.{mask_stays}
 use Rattle.plan_lower.specs.Forms.{is_lowered}
 use Rattle.plan_lower.specs.Emitting.{EmitsAll, Keeps}
-use Rattle.plan_lower.specs.Ends.{names_of, registers_of, plain_ends}
+use Rattle.plan_lower.specs.Ends.{registers_of, plain_ends}
 use Rattle.plan_lower.proofs.Items.{all_nil}
 use Rattle.plan_lower.proofs.EmittedValues.{mask_known}
 use Rattle.plan_lower.proofs.PlainQueries.{IsPlain, lowered_is_plain, is_ungrouped}

@@ -1,11 +1,11 @@
 -- The queries that are lowered have no groups, and each literal of theirs is a constant.
-use Rattle.std.proofs.Common.{◌≡◌, ℕ, ◌+◌, Bool, true, false, ◌&&◌, ◌||◌, not, List, [], ◌∷◌, ◌++◌, map, length, All, Option, Some, None, IfSome, refl, ap, sym, ◌∙◌, arith}
+use Rattle.std.proofs.Common.{◌≡◌, ℕ, ◌+◌, Bool, true, false, ◌&&◌, List, [], ◌∷◌, ◌++◌, map, length, Option, Some, None, refl, ap, ◌∙◌, arith}
 use Rattle.std.proofs.lemmas.List.{length-map}
 use Rattle.std.proofs.lemmas.List.FromFn.{length-enumerate_from}
 use Rattle.std.proofs.lemmas.Bool.{le-leb}
 use Rattle.std.proofs.lemmas.Bool.Decides.{nat_tests}
 use Rattle.std.proofs.lemmas.List.Folds.{list_any-append}
-use Rattle.std.specs.Prelude.{is_none, is_some, ◌==◌, nat_lt, ℤ, pos, negsuc, int_le, ◌<◌, ◌^◌}
+use Rattle.std.specs.Prelude.{is_none, ◌==◌, ℤ, pos, negsuc}
 use Rattle.std.specs.List.{list_all, list_any, enumerate_from}
 use Rattle.value_meaning.specs.Val.{Val, missing, null, truth, int, time, text, list, struct}
 use Rattle.query_meaning.specs.BinOp.{BinOp}
@@ -13,9 +13,9 @@ use Rattle.query_meaning.specs.BinOp as op
 use Rattle.query_meaning.specs.Tree.{Ex, lit, path, neg, no, bin, is, member, between, matching, choice, cast, call, trunc, extract, shift, agg_of_rows, agg, Outs, star, named, Query}
 use Rattle.query_meaning.specs.WellFormed.{IsNumber, IsLiteral}
 use Rattle.check_meaning.specs.Names.{items_of, names, output_name}
-use Rattle.check_meaning.specs.Parts.{within, unless, parts_outside, none}
-use Rattle.check_meaning.specs.Place.{Place, output, where_test, group_key, having, order_key}
-use Rattle.check_meaning.specs.Places.{output_exs, order_ex, places, counted, alone}
+use Rattle.check_meaning.specs.Parts.{within, parts_outside, none}
+use Rattle.check_meaning.specs.Place.{Place, output, where_test}
+use Rattle.check_meaning.specs.Places.{output_exs, places, counted, alone}
 use Rattle.check_meaning.specs.Aggregates.{is_aggregate, has_aggregate, asks_a_group, is_grouped}
 use Rattle.eval_meaning.specs.Numbers.{fits}
 use Rattle.program_meaning.specs.Programs.{IsConstant, IsOperator}

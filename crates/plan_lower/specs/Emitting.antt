@@ -1,5 +1,5 @@
 -- Programs that go on by the instructions of expressions.
-use Rattle.std.specs.Prelude.{◌≡◌, ℕ, ◌<◌, Bool, ◌&&◌, List, All, Option, map}
+use Rattle.std.specs.Prelude.{◌≡◌, ℕ, ◌<◌, ◌&&◌, List, All, Option, map}
 use Rattle.value_meaning.specs.Val.{Val}
 use Rattle.query_meaning.specs.Tree.{Ex}
 use Rattle.eval_meaning.specs.Evaluation.{eval}

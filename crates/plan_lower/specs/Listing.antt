@@ -1,5 +1,5 @@
 -- The listing of a job: its instructions and its ends, each on a line of its own.
-use Rattle.std.specs.Prelude.{ℕ, List, [], ◌∷◌, ◌++◌, take, Option, None, Some, if◌then◌else◌, codes}
+use Rattle.std.specs.Prelude.{ℕ, List, [], ◌++◌, take, Option, None, Some, if◌then◌else◌, codes}
 use Rattle.std.specs.Fmt.{decimal, signed_decimal}
 use Rattle.std.specs.List.{enumerate_from, flat_map}
 use Rattle.value_meaning.specs.Val.{Val}
@@ -12,7 +12,7 @@ use Rattle.query_meaning.specs.AggName.{AggName}
 use Rattle.query_meaning.specs.AggName as aggs
 use Rattle.print_meaning.specs.Pieces.{in_quotes}
 use Rattle.print_meaning.specs.Texts.{literal_text}
-use Rattle.program_meaning.specs.Instructions.{One, field, item, negation, asks, Two, binary, Source, row, literal, of_one, of_two, Instr, all, holding, make}
+use Rattle.program_meaning.specs.Instructions.{field, item, negation, asks, binary, Source, row, literal, of_one, of_two, Instr, all, holding, make}
 use Rattle.program_meaning.specs.Programs.{makes_mask, mask_count, value_count}
 use Rattle.program_meaning.specs.Jobs.{Ends, Job}
 

@@ -1,5 +1,5 @@
 //! The lines of the instructions of a job.
-ghost use Rattle.std.specs.Prelude.{◌≡◌, ◌<◌, ◌+◌, ◌++◌, map, length, slice_get, Some, OnOk, if◌then◌else◌};
+ghost use Rattle.std.specs.Prelude.{◌≡◌, ◌<◌, ◌+◌, ◌++◌, map, length, slice_get, Some, OnOk, cond, if◌then◌else◌};
 ghost use Rattle.value_meaning.specs.Val.{int};
 ghost use Rattle.program_meaning.specs.Instructions.{literal, of_one, of_two, field, item, asks, binary};
 ghost use Rattle.program_meaning.specs.Programs.{IsConstant, IsProgram};
@@ -10,7 +10,9 @@ ghost use Rattle.lane_ssa.specs.Views.{instr_view};
 ghost use Rattle.plan_lower.specs.Listing as spec;
 ghost use Rattle.plan_lower.specs.Constants.{HasConstant};
 
-use crate::pieces::{op_word, put, put_digits, put_mask, put_operand, put_under, put_value, what_word};
+use crate::pieces::{
+    op_word, put, put_digits, put_mask, put_operand, put_under, put_value, what_word,
+};
 use itoa::Buffer;
 use lane_ssa::Instr;
 use snel_values::{BinOp, Bytes, IsWhat, OutOfMemory, Text, Value};
@@ -123,6 +125,13 @@ fn makes_mask(instr: &Instr) -> bool
     matches!(instr, Instr::All | Instr::True { .. })
 }
 
+/// How many masks an instruction makes.
+fn masks_of(instr: &Instr) -> u64
+    ensures { result ≡ cond (programs.makes_mask (instr_view instr.now)) 1 0 }
+{
+    if makes_mask(instr) { 1 } else { 0 }
+}
+
 /// The register that an instruction makes behind so many masks and values.
 fn put_register(text: &mut Bytes, is_mask: bool, masks: u64, values: u64) -> Result<(), OutOfMemory>
     ensures { OnOk result (text.new ≡ text.old ++ (if is_mask then spec.mask_name masks else spec.value_name values)) }
@@ -162,7 +171,7 @@ pub(crate) fn put_program(text: &mut Bytes, instrs: &[Instr]) -> Result<(), OutO
     for at in 0..instrs.len() {
         let instr = instr_at(instrs, at);
         put_line(text, instr, masks, at as u64 - masks)?;
-        masks += u64::from(makes_mask(instr));
+        masks += masks_of(instr);
     }
     Ok(())
 }

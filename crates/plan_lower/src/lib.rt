@@ -14,6 +14,8 @@ pub use job_text::listing;
 pub use lowering::lower;
 
 #[cfg(test)]
+mod listing_tests;
+#[cfg(test)]
 mod made;
 #[cfg(test)]
 mod tests;

@@ -1,12 +1,16 @@
 //! Trees of well-formed queries, and jobs of one instruction, for the tests.
-ghost use Rattle.std.specs.Prelude.{◌<◌, ◌≤◌, length, IfOk, All};
-ghost use Rattle.query_meaning.specs.WellFormed.{IsFormed, IsOutput, IsWellFormed};
-ghost use Rattle.program_meaning.specs.Programs.{IsInstruction};
+ghost use Rattle.std.specs.Prelude.{◌≡◌, ◌<◌, ℕ, [], ◌∷◌, length, IfOk, IfSome};
+ghost use Rattle.std.specs.Option.{option_map};
+ghost use Rattle.query_meaning.specs.WellFormed.{IsFormed, AreOutputs, IsWellFormed};
+ghost use Rattle.program_meaning.specs.Instructions.{all, make, row};
+ghost use Rattle.program_meaning.specs.Programs.{mask_count, IsInstruction};
+ghost use Rattle.program_meaning.specs.Jobs.{AreEnds};
 ghost use Rattle.sql_tree.specs.View.{view};
-ghost use Rattle.sql_tree.specs.Queries.{query_view};
-ghost use Rattle.lane_ssa.specs.Views.{instr_view};
+ghost use Rattle.sql_tree.specs.Queries.{outs_view, query_view};
+ghost use Rattle.lane_ssa.specs.Views.{instr_view, ends_view};
 
 use crate::{is_lowered, listing, lower};
+use lane_ssa::{Builder, EndAggs, EndOuts, Ends, Instr, Registers};
 use query_check::check;
 use snel_values::{Bytes, IsWhat, OutOfMemory, Step, Steps, Text};
 use sql_tree::{Expr, Exprs, Operand, OrderKeys, Outputs, Query};
@@ -40,7 +44,11 @@ pub(crate) fn not(alloc: Global, of: Expr) -> Result<Expr, OutOfMemory>
 }
 
 /// `SELECT outputs FROM t WHERE filter`
-pub(crate) fn query(alloc: Global, outputs: Outputs, filter: Option<Expr>) -> Result<Query, OutOfMemory>
+pub(crate) fn query(
+    alloc: Global,
+    outputs: Outputs,
+    filter: Option<Expr>,
+) -> Result<Query, OutOfMemory>
     requires outputs { AreOutputs (outs_view outputs) }
     requires filter { IfSome (option_map view filter) IsFormed }
     ensures { IfOk result (λ q. IsWellFormed (query_view q)) }
@@ -70,4 +78,49 @@ pub(crate) fn listed(alloc: Global, query: Query) -> Result<Bytes, OutOfMemory>
     }
     let job = lower(alloc, &checked)?;
     listing(alloc, &job)
+}
+
+/// A program of the mask 0 and the rows as the value 0.
+pub(crate) fn begun(alloc: Global) -> Result<Builder, OutOfMemory>
+    ensures { IfOk result (λ b. b ≡ all ∷ make 0 row ∷ []) }
+{
+    let mut builder = Builder::new(alloc);
+    let mask = builder.put(Instr::All)?;
+    builder.put(Instr::Root { mask })?;
+    Ok(builder)
+}
+
+/// The same and one instruction more.
+fn begun_with(alloc: Global, instr: Instr) -> Result<Builder, OutOfMemory>
+    requires { IsInstruction 1 1 (instr_view instr) }
+    ensures { IfOk result (λ b. 0 < mask_count b) }
+{
+    let mut builder = begun(alloc)?;
+    builder.put(instr)?;
+    Ok(builder)
+}
+
+/// The ends of a job that puts out the whole rows of the mask 0.
+fn whole_ends(alloc: Global) -> Ends
+    ensures { (m v : ℕ) → 0 < m → AreEnds m v (ends_view result) }
+{
+    Ends {
+        keep: 0,
+        star: true,
+        grouped: false,
+        outs: EndOuts::new(alloc),
+        sorts: Registers::new(alloc),
+        groups: Registers::new(alloc),
+        aggs: EndAggs::new(alloc),
+    }
+}
+
+/// Whether the instruction has this line, behind the lines of the mask 0 and the value 0.
+pub(crate) fn has_line(alloc: Global, instr: Instr, line: &str) -> Result<bool, OutOfMemory>
+    requires { IsInstruction 1 1 (instr_view instr) }
+{
+    let builder = begun_with(alloc, instr)?;
+    let text = listing(alloc, &builder.finish(whole_ends(alloc)))?;
+    let wanted = format!(in alloc; "m0 = all\nr0 = root m0\n{line}\nkeep m0\nstar\n")?;
+    Ok(text.as_slice() == wanted.as_bytes())
 }

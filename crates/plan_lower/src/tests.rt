@@ -2,6 +2,7 @@ ghost use Rattle.std.specs.Prelude.{◌≡◌, ◌≤◌, length, IfOk, All};
 ghost use Rattle.query_meaning.specs.WellFormed.{IsFormed, IsOutput};
 ghost use Rattle.sql_tree.specs.View.{view};
 
+use crate::is_lowered;
 use crate::made::{is, listed, not, path, query};
 use snel_values::{BinOp, IsWhat, OutOfMemory, Step, Steps, Text};
 use sql_tree::{Expr, Item, Operand, OutItems, Outputs};
@@ -38,7 +39,8 @@ fn lowers_the_whole_row(rt: HostRuntime) -> Result<(), Fail> {
     let alloc = rt.alloc();
     let asked = query(alloc, Outputs::Star, None)?;
     let text = listed(alloc, asked)?;
-    assert_eq!(rt; text.as_slice(), b"m0 = all\nkeep m0\nstar\n");
+    let wanted = "m0 = all\nkeep m0\nstar\n";
+    assert_eq!(rt; text.as_slice(), wanted.as_bytes());
     Ok(())
 }
 
@@ -109,7 +111,11 @@ out \"x\" r14
 #[test]
 fn lowers_outputs_under_the_mask_of_where(rt: HostRuntime) -> Result<(), Fail> {
     let alloc = rt.alloc();
-    let asked = query(alloc, Outputs::Named(two_outputs(alloc)?), Some(filter(alloc)?))?;
+    let asked = query(
+        alloc,
+        Outputs::Named(two_outputs(alloc)?),
+        Some(filter(alloc)?),
+    )?;
     let text = listed(alloc, asked)?;
     assert_eq!(rt; text.as_slice(), FILTERED.as_bytes());
     Ok(())
@@ -137,7 +143,7 @@ fn lowers_a_deep_expression(rt: HostRuntime) -> Result<(), Fail> {
     Ok(())
 }
 
-/// `SELECT NULL FROM t WHERE TRUE LIMIT 1` isn't lowered
+/// `SELECT * FROM t WHERE a` is lowered, and with LIMIT 1 it isn't
 #[test]
 fn tells_what_is_lowered(rt: HostRuntime) -> Result<(), Fail> {
     let alloc = rt.alloc();

@@ -1,4 +1,4 @@
-use Rattle.std.proofs.Common.{◌≡◌, ap, sym, subst, ◌∙◌, arith, IfOk}
+use Rattle.std.proofs.Common.{ap, sym, subst, ◌∙◌, arith, IfOk}
 use Rattle.query_meaning.specs.Tree.{size, no, bin, is}
 use Rattle.query_meaning.specs.WellFormed.{IsFormed}
 use Rattle.program_meaning.specs.Instructions.{negation, asks, binary}
@@ -13,9 +13,10 @@ use Rattle.plan_lower.proofs.emitting.+emit.Goals as goal
 pub emit_bin-emit_expr-requires-2 : goal.emit_bin-emit_expr-requires-2
 emit_bin-emit_expr-requires-2 t c = (
   omega (arith, ap size c.get-2.ensures, c.decreases),
-  mask_known c.args.builder.now c.emit_expr.new.builder c.args.mask c.in_ok-a.ensures.extends c.requires.mask,
-  ap is_lowered_ex c.get-2.ensures ∙ c.requires.right_lowered,
-  subst IsFormed (sym c.get-2.ensures) c.requires.right_formed,
+  (
+    mask_known c.args.builder.now c.emit_expr.new.builder c.args.mask c.in_ok-a.ensures.extends c.requires.mask,
+    (ap is_lowered_ex c.get-2.ensures ∙ c.requires.right_lowered, subst IsFormed (sym c.get-2.ensures) c.requires.right_formed),
+  ),
 )
 
 pub emit_bin-returns : goal.emit_bin-returns

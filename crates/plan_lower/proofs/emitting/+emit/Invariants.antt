@@ -1,4 +1,4 @@
-use Rattle.std.proofs.Common.{◌≡◌, ◌*◌, ◌+◌}
+use Rattle.std.proofs.Common.{◌*◌, ◌+◌}
 use Rattle.query_meaning.specs.Tree.{size}
 use Rattle.sql_tree.specs.View.{view}
 use Rattle.plan_lower.proofs.emitting.+emit.Given as goal

@@ -1,5 +1,5 @@
-use Rattle.std.proofs.Common.{◌≡◌, ap, sym, subst, ◌∙◌, IfOk}
-use Rattle.query_meaning.specs.Tree.{Step, name, at}
+use Rattle.std.proofs.Common.{ap, sym, subst, ◌∙◌, IfOk}
+use Rattle.query_meaning.specs.Tree.{name}
 use Rattle.eval_meaning.specs.Paths.{step_of}
 use Rattle.program_meaning.specs.Instructions.{field, item}
 use Rattle.sql_tree.specs.View.{step_view}

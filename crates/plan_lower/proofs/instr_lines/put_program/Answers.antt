@@ -1,4 +1,5 @@
-use Rattle.std.proofs.Common.{◌≡◌, ◌+◌, ◌++◌, map, length, length-map, ap, sym, ◌∙◌, cond, arith}
+use Rattle.std.proofs.Common.{◌≡◌, ◌+◌, ◌++◌, ◌<◌, map, length, ap, ◌∙◌, cond, arith}
+use Rattle.std.proofs.lemmas.List.{length-map}
 use Rattle.program_meaning.specs.Programs.{makes_mask}
 use Rattle.lane_ssa.specs.Views.{instr_view}
 use Rattle.plan_lower.proofs.Lines.{program_more, mask_more, mask_within, program_done}
@@ -14,15 +15,14 @@ loop-at-preserved c =
     let x = instr_view c.instr_at-instr.result.now in
     let at = c.loop-at.at in
     let masks = c.loop-at.masks in
-    let inside = omega (arith, c.loop-at-test.true, length-map c.args.instrs.now instr_view) in
-    let flag : c.from-masks.result ≡ cond (makes_mask x) 1 0 = c.from-masks.ensures ∙ ap (λ b. cond b 1 0) c.makes_mask.ensures in
-    (
+    let inside : at < length xs = omega (arith, c.loop-at-test.true, length-map c.args.instrs.now instr_view) in
+    let flag : c.masks_of-masks.result ≡ cond (makes_mask x) 1 0 = c.masks_of-masks.ensures in (
       ap (λ n. masks + n) flag ∙ mask_more xs at x c.instr_at-instr.ensures masks c.loop-at.invariant.0,
       rw flag (mask_within xs at x c.instr_at-instr.ensures masks c.loop-at.invariant.0 inside),
-      program_more xs at x c.instr_at-instr.ensures masks c.loop-at.invariant.0 c.args.text.now c.loop-at.text c.put_line.new.text inside c.loop-at.invariant.1.1 c.in_ok-put_line.ensures,
+      program_more xs at x c.instr_at-instr.ensures masks c.loop-at.invariant.0 c.args.text.now c.loop-at.text c.put_line.new.text inside c.loop-at.invariant.2 c.in_ok-put_line.ensures,
     )
 
 pub returns : goal.returns
 returns c =
-    c.loop-at.invariant.1.1
+    c.loop-at.invariant.2
     ∙ ap (λ l. c.args.text.now ++ l) (program_done (map instr_view c.args.instrs.now) c.loop-at.at (omega (arith, c.loop-at-test.false, length-map c.args.instrs.now instr_view)))
