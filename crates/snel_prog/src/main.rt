@@ -4,9 +4,15 @@
 mod ask;
 #[cfg(test)]
 mod form_tests;
+#[cfg(test)]
+mod grid_tests;
+#[cfg(test)]
+mod query_tests;
 mod refusal;
 mod report;
 mod run;
+#[cfg(test)]
+mod test_files;
 #[cfg(test)]
 mod tests;
 
