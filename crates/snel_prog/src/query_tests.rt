@@ -147,6 +147,20 @@ fn paths_go_into_lists_and_structs(rt: HostRuntime) -> Result<(), Fail> {
     Ok(())
 }
 
+// The row {"a":[1,true,null]}.
+const LISTED_ITEMS: &[u8] = b"\xd6\x8a\xb4\x21\x01\x11\x0f";
+
+#[test]
+fn items_behind_the_last_are_missing(rt: HostRuntime) -> Result<(), Fail> {
+    answers(
+        &rt,
+        "SELECT a[0] AS f, a[3] AS g FROM logs",
+        OF_A,
+        &[LISTED_ITEMS],
+        "{\"f\":1}\n",
+    )
+}
+
 // Twenty rows lie in two chunks: {"a":1} and {} by turns.
 #[test]
 fn rows_of_two_chunks_are_answered(rt: HostRuntime) -> Result<(), Fail> {
