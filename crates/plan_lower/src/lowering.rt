@@ -133,7 +133,8 @@ fn plain_ends(alloc: Global, keep: u32, star: bool, outs: EndOuts) -> Ends
 }
 
 /// The job of an accepted query of the form that [`is_lowered`](crate::is_lowered) tells. Its program makes the mask of all
-/// rows, then what WHERE asks and the mask of the rows that pass, and then each output under that mask.
+/// rows, then what WHERE asks and the mask of the rows that pass, and then each output under that mask. It fails for want of
+/// memory alone; more registers than a `u32` counts are such a want.
 pub fn lower(alloc: Global, checked: &Checked) -> Result<Job, OutOfMemory>
     requires lowered { is_lowered checked.now ≡ true }
     requires formed { IsWellFormed checked.now }
