@@ -17,6 +17,7 @@ use lane_ssa::Frame;
 use snel_values::{Bytes, OutOfMemory};
 
 /// Adds the lines of the rows that passed in the chunk from `first` on that the frame ran over.
+#[inline(never)]
 fn append_lanes<'b>(
     into: &mut Bytes,
     heads: &LineHeads,
