@@ -50,6 +50,7 @@ impl<'b> Cell<'b> {
     }
 
     /// What kind of value the cell denotes.
+    #[inline(always)]
     pub fn kind(&self) -> Kind
         ensures { (table : Table) → Fits table self.now → result ≡ kind_of (is_symbol_cell self.now) (shown table self.now) }
     {
@@ -60,6 +61,7 @@ impl<'b> Cell<'b> {
     }
 
     /// The number.
+    #[inline(always)]
     pub fn int(&self) -> Option<i64>
         ensures { (table : Table) → Fits table self.now → result ≡ int_of (shown table self.now) }
     {
@@ -149,6 +151,7 @@ impl<'b> Cell<'b> {
     }
 
     /// The pairs of the struct, a label and a cell each, in order. The text of a label is its text in the symbol table.
+    #[inline(always)]
     pub fn fields(&self) -> Option<Fields<'b>>
         ensures pairs { (table : Table) → Fits table self.now → option_map (pairs_left table) result ≡ pairs_in (shown table self.now) }
         ensures last { IfSome result (λ s. fields_last s ≡ cell_last self.now) }

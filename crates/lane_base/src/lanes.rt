@@ -170,6 +170,7 @@ impl<'b> Lanes<'b> {
     }
 
     /// What the lane, which is below 16, shows.
+    #[inline(always)]
     pub fn look(&self, lane: u32) -> Look<'b>
         requires { lane < 16 }
         ensures { seen result ≡ shown self.now lane }

@@ -191,6 +191,7 @@ pub fn texts16<'b>(c: &CellLanes<'b>, table: &SymTab<'b>, m: LaneMask) -> SpanLa
 
 /// Lanes that show what the cells of the lanes of `m` denote under the table. A lane without a cell is MISSING, and so is
 /// each lane outside `m`. Each cell in a lane of `m` is one under the table.
+#[inline(always)]
 pub fn load16<'b>(c: &CellLanes<'b>, table: &SymTab<'b>, m: LaneMask) -> Lanes<'b>
     requires { AreCellsOf table.now m.0 c.now }
     ensures value { (i : ℕ) → i < 16 → value_at table.now result i ≡ denoted table.now (cell_within m.0 c.now i) }
