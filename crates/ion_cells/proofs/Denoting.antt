@@ -1,10 +1,10 @@
 -- What a cell's tag and content say of its value, and what the contents that are made of them denote.
-use Rattle.std.proofs.Common.{◌≡◌, ℕ, ◌-◌, ◌≤◌, ◌×◌, ℤ, pos, true, List, length, drop, Option, Some, None, refl, sym, ap, subst, ◌∙◌, arith}
+use Rattle.std.proofs.Common.{◌≡◌, ℕ, ◌-◌, ◌≤◌, ℤ, Bool, true, false, cond, List, length, drop, Option, Some, None, refl, sym, ap, subst, ◌∙◌, arith}
 use Rattle.std.specs.Option.{option_map}
 use Rattle.std.specs.Prelude.{is_some}
 use Rattle.time_meaning.specs.Moments.{IsTime}
-use Rattle.value_meaning.specs.Val.{Val, int, time, text, list, struct, vals, fields}
-use Rattle.value_meaning.proofs.Chains.{vals-items, fields-pairs}
+use Rattle.value_meaning.specs.Val.{Val, time, text, list, struct, vals, fields}
+use Rattle.value_meaning.proofs.Chains.{vals-items, items-vals, fields-pairs, pairs-fields}
 use Rattle.block_meaning.specs.Numbers.{magnitude}
 use Rattle.block_meaning.specs.Timestamps.{timestamp}
 use Rattle.block_meaning.specs.Tables.{Table, text_of}
@@ -12,12 +12,21 @@ use Rattle.block_meaning.specs.CellReading.{blank_table}
 use Rattle.block_meaning.specs.Blocks.{only_payload}
 use Rattle.block_meaning.proofs.Answered.{some_is, none_is}
 use Rattle.block_meaning.proofs.LastSymbol.{length_blank}
-use Rattle.block_meaning.proofs.Symbols.{text_of_range}
+use Rattle.block_meaning.proofs.Symbols.{text_of_range, text_of_some}
 use Rattle.block_meaning.proofs.TimeRange.{timestamp_is_time}
 use Rattle.ion_cells.specs.declared.cell.Cell.{Cell}
+use Rattle.ion_cells.specs.declared.content.Content.{Content}
+use Rattle.ion_cells.specs.declared.content.Content.TheVariants as contents
+use Rattle.ion_cells.specs.declared.iterators.Cells.{Cells}
+use Rattle.ion_cells.specs.declared.iterators.Fields.{Fields}
 use Rattle.ion_cells.specs.declared.tag.Tag.{Tag}
 use Rattle.ion_cells.specs.declared.tag.Tag.TheVariants as tags
+use Rattle.std.specs.Borrow.{Bor}
 use Rattle.ion_cells.specs.Kinds.{kind_of}
+use Rattle.ion_cells.specs.Values.{text_in, items_in, pairs_in}
+use Rattle.ion_cells.specs.Standing.{HasLast}
+use Rattle.ion_cells.specs.Iterating.{values_left, pairs_left}
+use Rattle.ion_cells.specs.Contents.{content_value, symbol_in}
 use Rattle.ion_cells.specs.Tags.{kind_of_tag}
 use Rattle.ion_cells.specs.Left.{are_items, are_fields, values_of, pairs_of, name_of}
 use Rattle.ion_cells.specs.Shown.{cell_bytes, cell_last, cell_content, Fits, shown, is_symbol_cell}
@@ -46,7 +55,6 @@ module _ (cell : Cell) where
         sym (symbol_so cell.last cell.bytes.now cell.legal cell.tag (length cell.bytes.now - cell.start) (drop cell.start cell.bytes.now) cell.opens ∙ (λ i. symbol_payload (same i) (is_back i)))
       where
         is_back : drop cell.start cell.bytes.now ≡ p
-        unfolding cell_content
         is_back = sym is
 
 module _ (table : Table) (p : List ℕ) (v : Val) where
@@ -82,3 +90,45 @@ module _ (last : ℕ) (p : List ℕ) (v : Val) where
   symbol_within h =
       let r = text_of_range (blank_table last) (magnitude p) h.1.0 h.1.1 in
       (r.0, omega (arith, length_blank last))
+
+-- what the readers of one kind give of a content
+
+pub items_are : (table : Table) (cells : Cells) (v : Val) → list (vals (values_left table cells)) ≡ v → Some (values_left table cells) ≡ items_in v
+items_are table cells v e = ap Some (sym (items-vals (values_left table cells))) ∙ ap items_in e
+
+pub pairs_are : (table : Table) (named : Fields) (v : Val) → struct (fields (pairs_left table named)) ≡ v → Some (pairs_left table named) ≡ pairs_in v
+pairs_are table named v e = ap Some (sym (pairs-fields (pairs_left table named))) ∙ ap pairs_in e
+
+pub symbol_text : (table : Table) (last n : ℕ) (v : Val) → HasLast table last → (10 ≤ n) × (n ≤ last) → text (name_of table n) ≡ v → text_of table n ≡ text_in v
+symbol_text table last n v fits range e =
+    let s = text_of_some table n range.0 (omega (arith, fits, range.0, range.1)) in
+    let named : name_of table n ≡ s.0 = rw s.1 refl in
+    s.1 ∙ ap Some (sym named) ∙ ap text_in e
+
+module _ (cell : Cell) (v : Val) where
+  none_mapped : (o : Option (List ℕ)) → None ≡ option_map magnitude o → is_some o ≡ false
+  none_mapped None e = refl
+  none_mapped (Some p) e = cc
+
+  some_mapped : (n : ℕ) (o : Option (List ℕ)) → Some n ≡ option_map magnitude o → is_some o ≡ true
+  some_mapped n None e = cc
+  some_mapped n (Some p) e = refl
+
+  pub text_is : (s : List ℕ) → None ≡ option_map magnitude (only_payload 7 (cell_bytes cell)) → text s ≡ v → Some s ≡ cond (is_symbol_cell cell) None (text_in v)
+  unfolding is_symbol_cell
+  text_is s none e = rw (none_mapped (only_payload 7 (cell_bytes cell)) none) (ap text_in e)
+
+  always_none : (b : Bool) (w : Val) → None ≡ text_in w → None ≡ cond b None (text_in w)
+  always_none true w e = refl
+  always_none false w e = e
+
+  pub no_text_is : (table : Table) (x : Content) → ((s : Bor (List ℕ)) → x ≡ contents.Text s → ⊥) → content_value table x ≡ v → symbol_in x ≡ option_map magnitude (only_payload 7 (cell_bytes cell)) → None ≡ cond (is_symbol_cell cell) None (text_in v)
+  unfolding is_symbol_cell
+  no_text_is table contents.Null other e symbol = always_none _ v (ap text_in e)
+  no_text_is table (contents.Bool b) other e symbol = always_none _ v (ap text_in e)
+  no_text_is table (contents.Int n) other e symbol = always_none _ v (ap text_in e)
+  no_text_is table (contents.Time t) other e symbol = always_none _ v (ap text_in e)
+  no_text_is table (contents.Symbol n) other e symbol = rw (some_mapped n (only_payload 7 (cell_bytes cell)) symbol) refl
+  no_text_is table (contents.Text s) other e symbol = absurd (other s refl)
+  no_text_is table (contents.List cells) other e symbol = always_none _ v (ap text_in e)
+  no_text_is table (contents.Struct pairs) other e symbol = always_none _ v (ap text_in e)

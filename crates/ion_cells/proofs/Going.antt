@@ -1,5 +1,5 @@
 -- The first of cells that stand end to end, found by its head alone.
-use Rattle.std.proofs.Common.{◌≡◌, ℕ, suc, ◌-◌, ◌+◌, ◌<◌, ◌≤◌, true, false, cond, List, [], ◌∷◌, length, take, drop, Option, Some, None, ltb, add-one, refl, sym, ap, ◌∙◌, arith, inl, inr}
+use Rattle.std.proofs.Common.{◌≡◌, ℕ, suc, ◌-◌, ◌+◌, ◌<◌, ◌≤◌, true, false, List, [], ◌∷◌, length, take, drop, Option, Some, None, ltb, add-one, refl, sym, ap, ◌∙◌, arith, inl, inr}
 use Rattle.std.specs.Option.{option_map, option_and_then}
 use Rattle.std.specs.Prelude.{is_some, unwrap_or}
 use Rattle.std.proofs.lemmas.List.{take_rest}
@@ -14,7 +14,8 @@ use Rattle.block_meaning.proofs.LastSymbol.{length_blank, same_ends, same_cells,
 use Rattle.block_meaning.proofs.CellSteps.{ends, cell_shrinks, cells_next, cells_stop, pairs_next, var_uint_shrinks, first_of_cells}
 use Rattle.ion_cells.specs.Standing.{HasLast}
 use Rattle.ion_cells.specs.Steps.{payload_to}
-use Rattle.ion_cells.specs.Tags.{tag_of_byte, tag_of_type, opening}
+use Rattle.ion_cells.specs.declared.tag.Tag.{Tag}
+use Rattle.ion_cells.specs.Tags.{tag_of_type, opening}
 use Rattle.ion_cells.specs.Left.{are_items, are_fields, values_read, values_of, pairs_read, pairs_of, name_of, named, behind_cell}
 use Rattle.ion_cells.proofs.Answered.{there}
 use Rattle.ion_cells.proofs.PairSteps.{cell_to_is}
@@ -26,13 +27,13 @@ unfolding cell_by behind_cell opening
 behind_by p [] x e = absurd cc
 behind_by p (h ∷ rest) x e = go (one_byte h) refl
   where
-    go : (o : Option Val) → one_byte h ≡ o → option_map (λ y. drop y.1 y.2) (cond (is_some (one_byte h)) (Some (tag_of_byte h, 0, rest)) (option_map (λ y. (tag_of_type y.0, y.1, y.2)) (head_at (h ∷ rest)))) ≡ Some x.1
+    go : (o : Option Val) → one_byte h ≡ o → behind_cell (h ∷ rest) ≡ Some x.1
     go (Some v) k =
         let m : Some (v, rest) ≡ Some x = rw k at e in
         rw k (ap (λ (z : Val × List ℕ). Some z.1) (some_is _ _ m))
     go None k = rw k (by_head (head_at (h ∷ rest)) (rw k at e))
       where
-        by_head : (o : Option (ℕ × ℕ × List ℕ)) → option_and_then (λ y. option_map (λ v. (v, drop y.1 y.2)) (p y.0 (take y.1 y.2))) o ≡ Some x → option_map (λ y. drop y.1 y.2) (option_map (λ y. (tag_of_type y.0, y.1, y.2)) o) ≡ Some x.1
+        by_head : (o : Option (ℕ × ℕ × List ℕ)) → option_and_then (λ y. option_map (λ v. (v, drop y.1 y.2)) (p y.0 (take y.1 y.2))) o ≡ Some x → option_map (λ (y : Tag × ℕ × List ℕ). drop y.1 y.2) (option_map (λ (y : ℕ × ℕ × List ℕ). (tag_of_type y.0, y.1, y.2)) o) ≡ Some x.1
         by_head None e = absurd cc
         by_head (Some y) e =
             let m = map_is (λ (v : Val). (v, drop y.1 y.2)) (p y.0 (take y.1 y.2)) x e in
@@ -114,7 +115,7 @@ none_found last (b ∷ bs) legal k =
     absurd (none_is _ (k ∙ behind_is (blank_table last) 127 (b ∷ bs) r.0 r.1))
 
 pub some_found : (bytes rest : List ℕ) → Some rest ≡ behind_cell bytes → 0 < length bytes
-unfolding behind_cell
+unfolding behind_cell opening
 some_found [] rest k = absurd cc
 some_found (b ∷ bs) rest k = omega arith
 

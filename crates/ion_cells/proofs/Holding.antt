@@ -1,29 +1,23 @@
 -- What a cell denotes, by its tag and its content.
-use Rattle.std.proofs.Common.{◌≡◌, ℕ, suc, ◌^◌, ◌<◌, ◌≤◌, ◌×◌, ℤ, pos, negsuc, Bool, true, false, cond, List, [], ◌∷◌, length, get_or, Option, Some, None, eqb, refl, sym, ap, subst, ◌∙◌, arith}
-use Rattle.std.specs.Option.{option_map}
+use Rattle.std.proofs.Common.{◌≡◌, ℕ, suc, ◌^◌, ◌<◌, ◌≤◌, ℤ, pos, negsuc, Bool, true, false, cond, List, [], ◌∷◌, length, get_or, Option, Some, None, eqb, refl, sym, ap, subst, ◌∙◌, arith}
 use Rattle.std.specs.Prelude.{is_some}
 use Rattle.std.specs.Str.{IsUtf8}
 use Rattle.std.proofs.lemmas.Str.{IsUtf8-from_is_utf8}
 use Rattle.std.proofs.lemmas.Bool.Decides.{nat_tests}
-use Rattle.time_meaning.specs.Moments.{IsTime}
 use Rattle.value_meaning.specs.Val.{Val, Vals, Fields, null, truth, int, time, text, list, struct}
 use Rattle.block_meaning.specs.Numbers.{magnitude}
 use Rattle.block_meaning.specs.Timestamps.{timestamp}
-use Rattle.block_meaning.specs.Tables.{Table, last_symbol, text_of}
+use Rattle.block_meaning.specs.Tables.{Table, text_of}
 use Rattle.block_meaning.specs.CellReading.{head_at, is_null_byte, one_byte, cell_to, cells_by, pairs_by, cell_value, is_cell, blank_table}
 use Rattle.block_meaning.specs.Blocks.{only_payload}
-use Rattle.block_meaning.proofs.Answered.{chosen, some_is, none_is, map_is}
-use Rattle.block_meaning.proofs.TimeRange.{timestamp_is_time}
+use Rattle.block_meaning.proofs.Answered.{some_is, map_is}
 use Rattle.block_meaning.proofs.LastSymbol.{length_blank}
-use Rattle.block_meaning.proofs.Symbols.{text_of_range}
-use Rattle.ion_cells.specs.declared.kind.Kind.{Kind}
 use Rattle.ion_cells.specs.declared.tag.Tag.{Tag}
 use Rattle.ion_cells.specs.declared.tag.Tag.TheVariants as tags
 use Rattle.ion_cells.specs.Kinds.{kind_of}
 use Rattle.ion_cells.specs.Standing.{HasLast}
 use Rattle.ion_cells.specs.Tags.{tag_of_byte, tag_of_type, kind_of_tag, opening}
-use Rattle.ion_cells.proofs.Parts.{IsAlone, HasPart}
-use Rattle.ion_cells.proofs.Payloads.{some_bytes, alone, count_is, has_part, Denotes, a_whole, a_negative, a_time, a_symbol, a_text, a_list, a_struct, denotes, ByteDenotes, a_null, a_truth, byte_denotes}
+use Rattle.ion_cells.proofs.Payloads.{some_bytes, alone, has_part, Denotes, a_whole, a_negative, a_time, a_symbol, a_text, a_list, a_struct, denotes, ByteDenotes, a_null, a_truth, byte_denotes}
 use Rattle.ion_cells.proofs.Openings.{found, by_head}
 use Rattle.ion_cells.proofs.SymbolCells.{only_part, no_symbol}
 
@@ -98,6 +92,13 @@ module _ (table : Table) (p : List ℕ) (v : Val) where
   kind_holds tags.List h = rw h.2 refl
   kind_holds tags.Struct h = rw h.2 refl
 
+byte_tag_is : (tag : Tag) (n : ℕ) (p bytes : List ℕ) → is_some (one_byte (get_or bytes 0 0)) ≡ true → 0 < length bytes → opening bytes ≡ found tag n p → tag_of_byte (get_or bytes 0 0) ≡ tag
+unfolding opening
+byte_tag_is tag n p [] k some e = absurd (omega arith)
+byte_tag_is tag n p (b ∷ bs) k some e =
+    let f : found (tag_of_byte b) 0 bs ≡ found tag n p = rw k at e in
+    ap (λ (x : Tag × ℕ × List ℕ). x.0) (some_is _ _ f)
+
 -- what the first bytes of a cell say is so
 module _ (last : ℕ) (bytes : List ℕ) (legal : is_cell (blank_table last) bytes ≡ true) where
   record Is (table : Table) (tag : Tag) (n : ℕ) (p : List ℕ) : Type 0 where
@@ -111,18 +112,11 @@ module _ (last : ℕ) (bytes : List ℕ) (legal : is_cell (blank_table last) byt
       go true k =
           let a = alone last bytes legal k in
           let d = byte_denotes (get_or bytes 0 0) (cell_value table bytes) (a.value table fits) in
-          let same : tag_of_byte (get_or bytes 0 0) ≡ tag = byte_tag_is bytes k (some_bytes last bytes legal) e in
+          let same : tag_of_byte (get_or bytes 0 0) ≡ tag = byte_tag_is tag n p bytes k (some_bytes last bytes legal) e in
           record {
             holds = subst (λ (t : Tag). Holds table t p (cell_value table bytes)) same (byte_holds table p _ (get_or bytes 0 0) d);
             symbol = no_symbol last bytes legal a ∙ byte_symbol table p _ (get_or bytes 0 0) d ∙ ap (λ (t : Tag). symbol_payload t p) same;
           }
-        where
-          byte_tag_is : (bytes : List ℕ) → is_some (one_byte (get_or bytes 0 0)) ≡ true → 0 < length bytes → opening bytes ≡ found tag n p → tag_of_byte (get_or bytes 0 0) ≡ tag
-          unfolding opening
-          byte_tag_is [] k some e = absurd (omega arith)
-          byte_tag_is (b ∷ bs) k some e =
-              let f : found (tag_of_byte b) 0 bs ≡ found tag n p = rw k at e in
-              ap (λ (x : Tag × ℕ × List ℕ). x.0) (some_is _ _ f)
       go false k =
           let m = map_is (λ (x : ℕ × ℕ × List ℕ). (tag_of_type x.0, x.1, x.2)) (head_at bytes) _ (by_head bytes k ∙ e) in
           let t = m.0.0 in

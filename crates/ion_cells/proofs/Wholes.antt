@@ -1,6 +1,5 @@
 -- The first bytes of bytes that are one cell.
-use Rattle.std.proofs.Common.{◌≡◌, ℕ, ◌-◌, ◌+◌, ◌≤◌, true, List, [], length, drop, Some, None, refl, sym, ap, ◌∙◌, arith, length-drop}
-use Rattle.std.specs.Option.{option_map}
+use Rattle.std.proofs.Common.{◌≡◌, ℕ, ◌-◌, ◌≤◌, true, List, [], length, drop, Some, sym, ap, ◌∙◌, arith, length-drop}
 use Rattle.block_meaning.specs.CellReading.{cell_value, is_cell, blank_table}
 use Rattle.block_meaning.proofs.Answered.{some_is, none_is}
 use Rattle.block_meaning.proofs.LastSymbol.{length_blank}

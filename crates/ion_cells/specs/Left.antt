@@ -1,5 +1,5 @@
 -- Cells and pairs end to end, as they stand within a cell.
-use Rattle.std.specs.Prelude.{ℕ, Bool, List, [], ◌∷◌, length, drop, Option, Some, None, is_some, unwrap_or}
+use Rattle.std.specs.Prelude.{ℕ, Bool, List, [], length, drop, Option, Some, None, is_some, unwrap_or}
 use Rattle.std.specs.Option.{option_map}
 use Rattle.value_meaning.specs.Val.{Val, Vals, Fields, items, pairs}
 use Rattle.block_meaning.specs.Tables.{Table, text_of}

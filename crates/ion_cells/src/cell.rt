@@ -125,6 +125,7 @@ impl<'b> Cell<'b> {
         ensures symbol { symbol_in result ≡ option_map magnitude (only_payload 7 (cell_bytes self.now)) }
         ensures within { IsWithin (cell_last self.now) result }
     {
+        let last = self.last;
         let payload = self.payload();
         match self.tag {
             Tag::Null => Content::Null,
@@ -138,8 +139,8 @@ impl<'b> Cell<'b> {
             },
             Tag::Symbol => Content::Symbol(magnitude(payload) as u32),
             Tag::Text => Content::Text(unsafe { std::str::from_utf8_unchecked(payload) }),
-            Tag::List => Content::List(Cells::of_bytes(payload, self.last)),
-            Tag::Struct => Content::Struct(Fields::of_bytes(payload, self.last)),
+            Tag::List => Content::List(Cells::of_bytes(payload, last)),
+            Tag::Struct => Content::Struct(Fields::of_bytes(payload, last)),
         }
     }
 
