@@ -1,11 +1,11 @@
 -- The value of an expression on a row: one case for each form.
 use Rattle.std.specs.Prelude.{List, [], ◌∷◌}
 use Rattle.value_meaning.specs.Val.{Val, missing}
-use Rattle.query_meaning.specs.BinOp.{BinOp}
-use Rattle.query_meaning.specs.BinOp as op
-use Rattle.query_meaning.specs.Func.{Func}
-use Rattle.query_meaning.specs.Func as func
-use Rattle.query_meaning.specs.Tree.{Ex, Exs, Arms, lit, path, neg, no, bin, is, member, between, matching, choice, cast, call, trunc, extract, shift, agg_of_rows, agg, no_exs, ex, no_arms, arm}
+use Rattle.tree_meaning.specs.declared.BinOp.{BinOp}
+use Rattle.tree_meaning.specs.declared.BinOp.TheVariants as op
+use Rattle.tree_meaning.specs.declared.Func.{Func}
+use Rattle.tree_meaning.specs.declared.Func.TheVariants as func
+use Rattle.tree_meaning.specs.Tree.{Ex, Exs, Arms, lit, path, neg, no, bin, is, member, between, matching, choice, cast, call, trunc, extract, shift, agg_of_rows, agg, no_exs, ex, no_arms, arm}
 use Rattle.eval_meaning.specs.Logic.{and_of, or_of, not_of, is_of, coalesce, choice_of}
 use Rattle.eval_meaning.specs.Comparisons.{compare, member_of, between_of, null_if}
 use Rattle.eval_meaning.specs.Numbers.{arithmetic, negative}
@@ -16,19 +16,19 @@ use Rattle.eval_meaning.specs.Paths.{path_of}
 
 -- an operator of two operands
 abbrev pub binary : BinOp → Val → Val → Val
-binary op.add = arithmetic op.add
-binary op.sub = arithmetic op.sub
-binary op.mul = arithmetic op.mul
-binary op.div = arithmetic op.div
-binary op.rem = arithmetic op.rem
-binary op.eq = compare op.eq
-binary op.ne = compare op.ne
-binary op.lt = compare op.lt
-binary op.le = compare op.le
-binary op.gt = compare op.gt
-binary op.ge = compare op.ge
-binary op.both = and_of
-binary op.either = or_of
+binary op.Add = arithmetic op.Add
+binary op.Sub = arithmetic op.Sub
+binary op.Mul = arithmetic op.Mul
+binary op.Div = arithmetic op.Div
+binary op.Rem = arithmetic op.Rem
+binary op.Eq = compare op.Eq
+binary op.Ne = compare op.Ne
+binary op.Lt = compare op.Lt
+binary op.Le = compare op.Le
+binary op.Gt = compare op.Gt
+binary op.Ge = compare op.Ge
+binary op.And = and_of
+binary op.Or = or_of
 
 -- a function of one operand, and of two; the grammar gives no other count of them
 abbrev pub with_one : (Val → Val) → List Val → Val
@@ -41,11 +41,11 @@ with_two f vs = missing
 
 -- a function of values
 abbrev pub call_of : Func → List Val → Val
-call_of func.coalesce = coalesce
-call_of func.null_if = with_two null_if
-call_of func.char_length = with_one char_length
-call_of func.unix_epoch = with_one unix_epoch
-call_of func.unix_micro = with_one unix_micro
+call_of func.Coalesce = coalesce
+call_of func.NullIf = with_two null_if
+call_of func.CharLength = with_one char_length
+call_of func.UnixEpoch = with_one unix_epoch
+call_of func.UnixMicro = with_one unix_micro
 
 -- The value of an expression on a row. A path begins at the row, whatever the number of its row, since a query has one
 -- source. An aggregate has no value on one row: MISSING, and only grouped queries have any.

@@ -2,7 +2,7 @@
 use Rattle.std.specs.Prelude.{List, Option, None, Some}
 use Rattle.std.specs.List.{filter}
 use Rattle.value_meaning.specs.Val.{Val}
-use Rattle.query_meaning.specs.Tree.{Ex, Query}
+use Rattle.tree_meaning.specs.Tree.{Ex, Query}
 use Rattle.eval_meaning.specs.Logic.{is_true}
 use Rattle.eval_meaning.specs.Evaluation.{eval}
 

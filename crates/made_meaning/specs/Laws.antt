@@ -1,7 +1,7 @@
 -- Laws of made rows.
 use Rattle.std.specs.Prelude.{◌≡◌, List, [], None}
 use Rattle.value_meaning.specs.Val.{Val}
-use Rattle.query_meaning.specs.Tree.{Query, star}
+use Rattle.tree_meaning.specs.Tree.{Query, star}
 use Rattle.answer_meaning.specs.Made.{made_of_all}
 use Rattle.made_meaning.specs.MadeRows.{made}
 

@@ -2,7 +2,7 @@
 use Rattle.std.specs.Prelude.{ℕ, Bool, not, List, map, Option}
 use Rattle.std.specs.List.{filter, enumerate_from}
 use Rattle.value_meaning.specs.Val.{Val}
-use Rattle.query_meaning.specs.Tree.{Ex, Outs, star, named, Query}
+use Rattle.tree_meaning.specs.Tree.{Ex, Outs, star, named, Query}
 use Rattle.check_meaning.specs.Names.{output_name}
 use Rattle.check_meaning.specs.Places.{order_ex}
 use Rattle.eval_meaning.specs.Logic.{is_missing}

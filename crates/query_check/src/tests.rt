@@ -1,7 +1,7 @@
 use crate::{CheckFault, Limit, Place, check};
-use agg_laws::AggName;
+use tree_meaning::AggName;
 use snel_values::{OutOfMemory, Step, Steps, Text, Value};
-use sql_tree::{Expr, Exprs, Item, Operand, OrderKey, OrderKeys, OutItems, Outputs, Query};
+use query_tree::{Expr, Exprs, Item, Operand, OrderKey, OrderKeys, OutItems, Outputs, Query};
 use std::alloc::Global;
 use std::test::Fail;
 

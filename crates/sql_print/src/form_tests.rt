@@ -1,11 +1,12 @@
 ghost use Rattle.std.specs.Prelude.{IfOk};
-ghost use Rattle.query_meaning.specs.WellFormed.{IsFormed};
-ghost use Rattle.sql_tree.specs.View.{view};
+ghost use Rattle.tree_meaning.specs.WellFormed.{IsFormed};
+ghost use Rattle.query_tree.specs.View.{view};
 
 use crate::made::{shows, with_number, within};
-use agg_laws::AggName;
-use snel_values::{BinOp, CastTo, How, IsWhat, OutOfMemory, Part, Text, Value};
-use sql_tree::Expr;
+use tree_meaning::AggName;
+use snel_values::{OutOfMemory, Text, Value};
+use tree_meaning::{BinOp, CastTo, How, IsWhat, Part};
+use query_tree::Expr;
 use std::alloc::Global;
 use std::test::Fail;
 

@@ -1,12 +1,13 @@
 //! Trees of well-formed queries, for the tests.
 ghost use Rattle.std.specs.Prelude.{IfOk};
-ghost use Rattle.query_meaning.specs.WellFormed.{IsFormed, IsWellFormed};
-ghost use Rattle.sql_tree.specs.View.{view};
-ghost use Rattle.sql_tree.specs.Queries.{query_view};
+ghost use Rattle.tree_meaning.specs.WellFormed.{IsFormed, IsWellFormed};
+ghost use Rattle.query_tree.specs.View.{view};
+ghost use Rattle.query_tree.specs.Queries.{query_view};
 
 use crate::print;
-use snel_values::{BinOp, Bytes, OutOfMemory, Step, Steps, Text, Value};
-use sql_tree::{Expr, Exprs, Operand, OrderKeys, Outputs, Query};
+use snel_values::{Bytes, OutOfMemory, Step, Steps, Text, Value};
+use tree_meaning::BinOp;
+use query_tree::{Expr, Exprs, Operand, OrderKeys, Outputs, Query};
 use std::alloc::Global;
 
 /// `t.a`

@@ -1,13 +1,14 @@
 ghost use Rattle.std.specs.Prelude.{◌≤◌, length, IfOk, All};
-ghost use Rattle.query_meaning.specs.WellFormed.{IsFormed, IsOutput, IsKey, IsWellFormed};
-ghost use Rattle.sql_tree.specs.View.{view};
-ghost use Rattle.sql_tree.specs.Queries.{query_view};
+ghost use Rattle.tree_meaning.specs.WellFormed.{IsFormed, IsOutput, IsKey, IsWellFormed};
+ghost use Rattle.query_tree.specs.View.{view};
+ghost use Rattle.query_tree.specs.Queries.{query_view};
 
 use crate::made::{number, path, with_number, within};
 use crate::print;
-use agg_laws::AggName;
-use snel_values::{BinOp, OutOfMemory, Text};
-use sql_tree::{Expr, Exprs, Item, Operand, OrderKey, OrderKeys, OutItems, Outputs, Query};
+use tree_meaning::AggName;
+use snel_values::{OutOfMemory, Text};
+use tree_meaning::BinOp;
+use query_tree::{Expr, Exprs, Item, Operand, OrderKey, OrderKeys, OutItems, Outputs, Query};
 use std::alloc::Global;
 use std::test::Fail;
 

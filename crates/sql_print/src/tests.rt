@@ -1,12 +1,13 @@
 ghost use Rattle.std.specs.Prelude.{◌≤◌, length, IfOk};
-ghost use Rattle.query_meaning.specs.Tree.{exs, items, arms};
-ghost use Rattle.query_meaning.specs.WellFormed.{IsFormed, AreFormed, ArmsAreFormed, HasArm};
-ghost use Rattle.sql_tree.specs.View.{view};
+ghost use Rattle.tree_meaning.specs.Tree.{exs, items, arms};
+ghost use Rattle.tree_meaning.specs.WellFormed.{IsFormed, AreFormed, ArmsAreFormed, HasArm};
+ghost use Rattle.query_tree.specs.View.{view};
 
 use crate::made::{number, path, printed, shows, with_number, within};
 use crate::{put_literal, put_name, put_string};
-use snel_values::{BinOp, Bytes, Func, OutOfMemory, Part, Step, Steps, Text, Value};
-use sql_tree::{Arm, Arms, Expr, Exprs, Operand};
+use snel_values::{Bytes, OutOfMemory, Step, Steps, Text, Value};
+use tree_meaning::{BinOp, Func, Part};
+use query_tree::{Arm, Arms, Expr, Exprs, Operand};
 use std::alloc::Global;
 use std::test::Fail;
 

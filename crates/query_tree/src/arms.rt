@@ -1,8 +1,8 @@
 ghost use Rattle.std.specs.Prelude.{◌≡◌, [], ◌∷◌, ◌++◌, length, slice_get, OnOk, OnErr};
 ghost use Rattle.std.specs.Option.{option_map};
-ghost use Rattle.sql_tree.specs.View.{arm_view};
+ghost use Rattle.query_tree.specs.View.{arm_view};
 
-use crate::expr::Expr;
+use crate::expr::Operand;
 use snel_values::OutOfMemory;
 use std::alloc::Global;
 use std::marker::Model;
@@ -11,8 +11,8 @@ use std::marker::Model;
 #[cycle(expr)]
 #[derive(Drop)]
 pub struct Arm {
-    pub test: Expr,
-    pub value: Expr,
+    pub test: Operand,
+    pub value: Operand,
 }
 
 /// The arms of a CASE, seen as their list.
@@ -24,21 +24,21 @@ pub struct Arms {
 
 impl Model for Arms {
     ghost use Rattle.std.specs.Prelude.{List, map};
-    ghost use Rattle.query_meaning.specs.Tree.{Ex, arms_size, arms};
-    ghost use Rattle.query_meaning.specs.Code.{coded_ex};
+    ghost use Rattle.tree_meaning.specs.Tree.{Ex, arms_size, arms};
+    ghost use Rattle.tree_meaning.specs.Code.{coded_ex};
     ghost use Rattle.std.specs.Coded.{coded_list, coded×};
 
     ghost Value = { List (Ex × Ex) };
 
     ghost coded = { coded_list (coded× coded_ex coded_ex) };
 
-    ghost use Rattle.sql_tree.specs.View.{arm_view};
+    ghost use Rattle.query_tree.specs.View.{arm_view};
 
     ghost view = { λ s. map arm_view s.all.items };
 
     ghost size = { λ xs. arms_size (arms xs) };
 
-    ghost use Rattle.sql_tree.specs.Falls.{arms_fall};
+    ghost use Rattle.query_tree.specs.Falls.{arms_fall};
 
     ghost size_decreases = { λ a h. arms_fall a.all.items };
 }

@@ -1,4 +1,6 @@
-//! The operators and functions of the query language, by name alone.
+//! What trees of queries are: operators, functions, parts of times and aggregates by name, the trees over them, and which
+//! trees are well formed. Nothing here runs.
+#![tactic(auto)]
 
 /// An operator of two operands.
 #[derive(Clone, Copy, Debug, PartialEq, Eq)]
@@ -67,4 +69,20 @@ pub enum Part {
     Month,
     Quarter,
     Year,
+}
+
+/// An aggregate.
+#[derive(Clone, Copy, Debug, PartialEq, Eq)]
+pub enum AggName {
+    /// COUNT(*), which has no operand.
+    CountAll,
+    Count,
+    Sum,
+    Min,
+    Max,
+    Avg,
+    Earliest,
+    Latest,
+    BoolAnd,
+    BoolOr,
 }

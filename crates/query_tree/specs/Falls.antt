@@ -1,13 +1,13 @@
 -- Each tree within is smaller.
-use Rattle.std.specs.Prelude.{◌≤◌, max, List, [], ◌∷◌, map, Some, None}
+use Rattle.std.specs.Prelude.{◌+◌, ◌≤◌, max, List, [], ◌∷◌, map, Some, None}
 use Rattle.std.proofs.Common.{arith}
 use denote.Param.Weighed.{most}
-use Rattle.query_meaning.specs.Tree.{size, arms_size, arms, exs_size, exs}
-use Rattle.sql_tree.specs.declared.expr.Expr.{Expr}
-use Rattle.sql_tree.specs.declared.expr.Expr.TheVariants as of
-use Rattle.sql_tree.specs.declared.arms.Arm.{Arm}
-use Rattle.sql_tree.specs.declared.arms.Arms.TheDeep.{deep-Expr, deep-Arm}
-use Rattle.sql_tree.specs.View.{view, views, arm_view}
+use Rattle.tree_meaning.specs.Tree.{Ex, size, arms_size, arms, exs_size, exs}
+use Rattle.query_tree.specs.declared.expr.Expr.{Expr}
+use Rattle.query_tree.specs.declared.expr.Expr.TheVariants as of
+use Rattle.query_tree.specs.declared.arms.Arm.{Arm}
+use Rattle.query_tree.specs.declared.arms.Arms.TheDeep.{deep-Expr, deep-Arm}
+use Rattle.query_tree.specs.View.{view, arm_view}
 
 expr_falls : (e : Expr) → deep-Expr e ≤ size (view e)
 expr_falls (of.Lit v) = omega arith
@@ -33,14 +33,14 @@ operand_falls e = omega (arith, expr_falls e)
 
 arms_fall_in : (xs : List Arm) → most deep-Arm xs ≤ arms_size (arms (map arm_view xs))
 arms_fall_in [] = omega arith
-arms_fall_in (x ∷ xs) = omega (arith, expr_falls x.test, expr_falls x.value, arms_fall_in xs)
+arms_fall_in (x ∷ xs) = omega (arith, arms_fall_in xs)
 
 pub arms_fall : (xs : List Arm) → max (most deep-Arm xs) 0 ≤ arms_size (arms (map arm_view xs))
 arms_fall xs = omega (arith, arms_fall_in xs)
 
-exprs_fall_in : (xs : List Expr) → most deep-Expr xs ≤ exs_size (exs (views xs))
+exprs_fall_in : (xs : List Ex) → most (λ x. size x + 1) xs ≤ exs_size (exs xs)
 exprs_fall_in [] = omega arith
-exprs_fall_in (x ∷ xs) = omega (arith, expr_falls x, exprs_fall_in xs)
+exprs_fall_in (x ∷ xs) = omega (arith, exprs_fall_in xs)
 
-pub exprs_fall : (xs : List Expr) → max (most deep-Expr xs) 0 ≤ exs_size (exs (views xs))
+pub exprs_fall : (xs : List Ex) → max (most (λ x. size x + 1) xs) 0 ≤ exs_size (exs xs)
 exprs_fall xs = omega (arith, exprs_fall_in xs)

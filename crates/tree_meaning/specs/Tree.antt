@@ -1,13 +1,13 @@
 -- Trees of queries, apart from where they lie in memory.
 use Rattle.std.specs.Prelude.{ℕ, suc, ◌+◌, List, [], ◌∷◌, Bool, Option}
 use Rattle.value_meaning.specs.Val.{Val}
-use Rattle.query_meaning.specs.BinOp.{BinOp}
-use Rattle.query_meaning.specs.IsWhat.{IsWhat}
-use Rattle.query_meaning.specs.How.{How}
-use Rattle.query_meaning.specs.CastTo.{CastTo}
-use Rattle.query_meaning.specs.Func.{Func}
-use Rattle.query_meaning.specs.Part.{Part}
-use Rattle.query_meaning.specs.AggName.{AggName}
+use Rattle.tree_meaning.specs.declared.BinOp.{BinOp}
+use Rattle.tree_meaning.specs.declared.IsWhat.{IsWhat}
+use Rattle.tree_meaning.specs.declared.How.{How}
+use Rattle.tree_meaning.specs.declared.CastTo.{CastTo}
+use Rattle.tree_meaning.specs.declared.Func.{Func}
+use Rattle.tree_meaning.specs.declared.Part.{Part}
+use Rattle.tree_meaning.specs.declared.AggName.{AggName}
 
 -- a step of a path: to the pair of a name, or to the item at a place
 pub data Step : Type 0 where

@@ -1,10 +1,11 @@
 ghost use Rattle.std.specs.Prelude.{◌≡◌, IfOk};
-ghost use Rattle.sql_tree.specs.View.{view};
+ghost use Rattle.query_tree.specs.View.{view};
 
 use crate::arms::Arms;
 use crate::lists::Exprs;
-use agg_laws::AggName;
-use snel_values::{BinOp, CastTo, Func, How, IsWhat, OutOfMemory, Part, Steps, Text, Value};
+use tree_meaning::AggName;
+use snel_values::{OutOfMemory, Steps, Text, Value};
+use tree_meaning::{BinOp, CastTo, Func, How, IsWhat, Part};
 use std::alloc::Global;
 use std::marker::Model;
 
@@ -97,21 +98,21 @@ pub struct Operand {
 }
 
 impl Model for Operand {
-    ghost use Rattle.query_meaning.specs.Tree.{Ex};
-    ghost use Rattle.query_meaning.specs.Tree.{size as size_of};
-    ghost use Rattle.query_meaning.specs.Code.{coded_ex};
+    ghost use Rattle.tree_meaning.specs.Tree.{Ex};
+    ghost use Rattle.tree_meaning.specs.Tree.{size as size_of};
+    ghost use Rattle.tree_meaning.specs.Code.{coded_ex};
 
     ghost Value = { Ex };
 
     ghost coded = { coded_ex };
 
-    ghost use Rattle.sql_tree.specs.View.{view as view_of};
+    ghost use Rattle.query_tree.specs.View.{view as view_of};
 
     ghost view = { λ b. view_of b.of.value };
 
     ghost size = { size_of };
 
-    ghost use Rattle.sql_tree.specs.Falls.{operand_falls};
+    ghost use Rattle.query_tree.specs.Falls.{operand_falls};
 
     ghost size_decreases = { λ a h. operand_falls a.of.value };
 }

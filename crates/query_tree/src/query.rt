@@ -1,4 +1,4 @@
-use crate::expr::Expr;
+use crate::expr::Operand;
 use crate::lists::{Exprs, OrderKeys, OutItems};
 use snel_values::Text;
 
@@ -18,10 +18,10 @@ pub struct Query {
     /// The second name after FROM, which is then the row's name.
     pub alias: Option<Text>,
     /// WHERE
-    pub filter: Option<Expr>,
+    pub filter: Option<Operand>,
     /// GROUP BY, with no keys where it is absent
     pub keys: Exprs,
-    pub having: Option<Expr>,
+    pub having: Option<Operand>,
     /// ORDER BY, with no keys where it is absent
     pub order: OrderKeys,
     /// LIMIT

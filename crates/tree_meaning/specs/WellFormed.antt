@@ -3,12 +3,12 @@ use Rattle.std.specs.Prelude.{◌≡◌, ℕ, ◌<◌, ◌≤◌, ◌^◌, ℤ, 
 use Rattle.value_meaning.specs.Val.{Val}
 use Rattle.value_meaning.specs.Val as val
 use Rattle.time_meaning.specs.Moments.{IsTime}
-use Rattle.query_meaning.specs.Func.{Func}
-use Rattle.query_meaning.specs.Func as func
-use Rattle.query_meaning.specs.Part.{is_cut_to, is_extracted, is_added}
-use Rattle.query_meaning.specs.AggName.{AggName}
-use Rattle.query_meaning.specs.AggName as aggs
-use Rattle.query_meaning.specs.Tree.{Step, name, at, Ex, Exs, Arms, lit, path, neg, no, bin, is, member, between, matching, choice, cast, call, trunc, extract, shift, agg_of_rows, agg, no_exs, ex, no_arms, arm, items, Outs, star, named, Query}
+use Rattle.tree_meaning.specs.declared.Func.{Func}
+use Rattle.tree_meaning.specs.declared.Func.TheVariants as func
+use Rattle.tree_meaning.specs.Parts.{is_cut_to, is_extracted, is_added}
+use Rattle.tree_meaning.specs.declared.AggName.{AggName}
+use Rattle.tree_meaning.specs.declared.AggName.TheVariants as aggs
+use Rattle.tree_meaning.specs.Tree.{Step, name, at, Ex, Exs, Arms, lit, path, neg, no, bin, is, member, between, matching, choice, cast, call, trunc, extract, shift, agg_of_rows, agg, no_exs, ex, no_arms, arm, items, Outs, star, named, Query}
 
 -- a name is not empty
 abbrev pub IsName : List ℕ → Type 0
@@ -43,15 +43,15 @@ IsPath (name n ∷ ss) = IsName n × All IsStep ss
 
 -- how many arguments a function takes
 abbrev pub TakesArguments : Func → ℕ → Type 0
-TakesArguments func.coalesce n = 1 ≤ n
-TakesArguments func.null_if n = n ≡ 2
-TakesArguments func.char_length n = n ≡ 1
-TakesArguments func.unix_epoch n = n ≡ 1
-TakesArguments func.unix_micro n = n ≡ 1
+TakesArguments func.Coalesce n = 1 ≤ n
+TakesArguments func.NullIf n = n ≡ 2
+TakesArguments func.CharLength n = n ≡ 1
+TakesArguments func.UnixEpoch n = n ≡ 1
+TakesArguments func.UnixMicro n = n ≡ 1
 
 -- COUNT(*) alone has no operand
 abbrev pub IsOfRows : AggName → Type 0
-IsOfRows n = n ≡ aggs.count_all
+IsOfRows n = n ≡ aggs.CountAll
 
 -- a CASE has an arm
 abbrev pub HasArm : Arms → Type 0

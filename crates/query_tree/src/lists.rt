@@ -1,9 +1,8 @@
 ghost use Rattle.std.specs.Prelude.{◌≡◌, [], ◌∷◌, ◌++◌, length, slice_get, OnOk, OnErr, IfSome, IfNone};
 ghost use Rattle.std.specs.Option.{option_map};
-ghost use Rattle.sql_tree.specs.View.{view};
-ghost use Rattle.sql_tree.specs.Parts.{item_view, key_view};
+ghost use Rattle.query_tree.specs.Parts.{item_view, key_view};
 
-use crate::expr::Expr;
+use crate::expr::Operand;
 use snel_values::{OutOfMemory, Text};
 use std::alloc::Global;
 use std::marker::Model;
@@ -12,26 +11,24 @@ use std::marker::Model;
 #[cycle(expr)]
 #[derive(Drop)]
 pub struct Exprs {
-    all: Vec<Expr>,
+    all: Vec<Operand>,
 }
 
 impl Model for Exprs {
     ghost use Rattle.std.specs.Prelude.{List, map};
-    ghost use Rattle.query_meaning.specs.Tree.{Ex, exs_size, exs};
-    ghost use Rattle.query_meaning.specs.Code.{coded_ex};
+    ghost use Rattle.tree_meaning.specs.Tree.{Ex, exs_size, exs};
+    ghost use Rattle.tree_meaning.specs.Code.{coded_ex};
     ghost use Rattle.std.specs.Coded.{coded_list};
 
     ghost Value = { List Ex };
 
     ghost coded = { coded_list coded_ex };
 
-    ghost use Rattle.sql_tree.specs.View.{views};
-
-    ghost view = { λ s. views s.all.items };
+    ghost view = { λ s. s.all.items };
 
     ghost size = { λ xs. exs_size (exs xs) };
 
-    ghost use Rattle.sql_tree.specs.Falls.{exprs_fall};
+    ghost use Rattle.query_tree.specs.Falls.{exprs_fall};
 
     ghost size_decreases = { λ a h. exprs_fall a.all.items };
 }
@@ -54,25 +51,26 @@ impl Exprs {
     }
 
     /// Adds an expression at the end.
-    pub fn push(&mut self, expr: Expr) -> Result<(), OutOfMemory>
-        ensures ok { OnOk result (self.new ≡ self.old ++ view expr ∷ []) }
+    pub fn push(&mut self, expr: Operand) -> Result<(), OutOfMemory>
+        ensures ok { OnOk result (self.new ≡ self.old ++ expr ∷ []) }
         ensures err { OnErr result (self.new ≡ self.old) }
     {
         self.all.push(expr)?;
         Ok(())
     }
 
-    /// Takes the last expression off, if there is one.
-    pub fn pop(&mut self) -> Option<Expr>
-        ensures some { IfSome result (λ e. self.old ≡ self.new ++ view e ∷ []) }
+    /// Takes the last expression off, if there is one; an empty list stays as it was.
+    pub fn pop(&mut self) -> Option<Operand>
+        ensures some { IfSome result (λ e. self.old ≡ self.new ++ e ∷ []) }
         ensures none { IfNone result (self.old ≡ []) }
+        ensures stays { IfNone result (self.new ≡ self.old) }
     {
         self.all.pop()
     }
 
     /// The expression at a place, counted from 0.
-    pub fn get(&self, at: usize) -> Option<&Expr>
-        ensures { option_map (λ e. view e.now) result ≡ slice_get self.now at }
+    pub fn get(&self, at: usize) -> Option<&Operand>
+        ensures { option_map (λ e. e.now) result ≡ slice_get self.now at }
     {
         self.all.get(at)
     }
@@ -81,7 +79,7 @@ impl Exprs {
 /// An output of a query, and the name that it was given.
 #[derive(Drop)]
 pub struct Item {
-    pub expr: Expr,
+    pub expr: Operand,
     pub name: Option<Text>,
 }
 
@@ -93,15 +91,15 @@ pub struct OutItems {
 
 impl Model for OutItems {
     ghost use Rattle.std.specs.Prelude.{List, Option, ℕ, map};
-    ghost use Rattle.query_meaning.specs.Tree.{Ex};
-    ghost use Rattle.query_meaning.specs.Code.{coded_ex};
+    ghost use Rattle.tree_meaning.specs.Tree.{Ex};
+    ghost use Rattle.tree_meaning.specs.Code.{coded_ex};
     ghost use Rattle.std.specs.Coded.{coded_list, coded×, coded_option, coded_ℕ};
 
     ghost Value = { List (Ex × Option (List ℕ)) };
 
     ghost coded = { coded_list (coded× coded_ex (coded_option (coded_list coded_ℕ))) };
 
-    ghost use Rattle.sql_tree.specs.Parts.{item_view};
+    ghost use Rattle.query_tree.specs.Parts.{item_view};
 
     ghost view = { λ s. map item_view s.all.items };
 }
@@ -143,7 +141,7 @@ impl OutItems {
 /// An order key, and whether it is descending.
 #[derive(Drop)]
 pub struct OrderKey {
-    pub expr: Expr,
+    pub expr: Operand,
     pub falling: bool,
 }
 
@@ -155,15 +153,15 @@ pub struct OrderKeys {
 
 impl Model for OrderKeys {
     ghost use Rattle.std.specs.Prelude.{List, Bool, map};
-    ghost use Rattle.query_meaning.specs.Tree.{Ex};
-    ghost use Rattle.query_meaning.specs.Code.{coded_ex};
+    ghost use Rattle.tree_meaning.specs.Tree.{Ex};
+    ghost use Rattle.tree_meaning.specs.Code.{coded_ex};
     ghost use Rattle.std.specs.Coded.{coded_list, coded×, coded_bool};
 
     ghost Value = { List (Ex × Bool) };
 
     ghost coded = { coded_list (coded× coded_ex coded_bool) };
 
-    ghost use Rattle.sql_tree.specs.Parts.{key_view};
+    ghost use Rattle.query_tree.specs.Parts.{key_view};
 
     ghost view = { λ s. map key_view s.all.items };
 }

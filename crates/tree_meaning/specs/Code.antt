@@ -3,21 +3,21 @@ use Rattle.std.specs.Prelude.{◌≡◌, ℕ, refl, [], ◌∷◌, slice_index_o
 use Rattle.std.proofs.Common.{ap, sym, ◌∙◌, arith}
 use base.Stored.{Gv, gnil, gnum, gcons, Coded, coded_ℕ, coded_list}
 use Rattle.value_meaning.specs.Code.{coded_val}
-use Rattle.query_meaning.specs.BinOp.{BinOp}
-use Rattle.query_meaning.specs.BinOp as op
-use Rattle.query_meaning.specs.IsWhat.{IsWhat}
-use Rattle.query_meaning.specs.IsWhat as what
-use Rattle.query_meaning.specs.How.{How}
-use Rattle.query_meaning.specs.How as how
-use Rattle.query_meaning.specs.CastTo.{CastTo}
-use Rattle.query_meaning.specs.CastTo as to
-use Rattle.query_meaning.specs.Func.{Func}
-use Rattle.query_meaning.specs.Func as func
-use Rattle.query_meaning.specs.Part.{Part}
-use Rattle.query_meaning.specs.Part as part
-use Rattle.query_meaning.specs.AggName.{AggName}
-use Rattle.query_meaning.specs.AggName as aggs
-use Rattle.query_meaning.specs.Tree.{Step, name, at, Ex, Exs, Arms, lit, path, neg, no, bin, is, member, between, matching, choice, cast, call, trunc, extract, shift, agg_of_rows, agg, no_exs, ex, no_arms, arm}
+use Rattle.tree_meaning.specs.declared.BinOp.{BinOp}
+use Rattle.tree_meaning.specs.declared.BinOp.TheVariants as op
+use Rattle.tree_meaning.specs.declared.IsWhat.{IsWhat}
+use Rattle.tree_meaning.specs.declared.IsWhat.TheVariants as what
+use Rattle.tree_meaning.specs.declared.How.{How}
+use Rattle.tree_meaning.specs.declared.How.TheVariants as how
+use Rattle.tree_meaning.specs.declared.CastTo.{CastTo}
+use Rattle.tree_meaning.specs.declared.CastTo.TheVariants as to
+use Rattle.tree_meaning.specs.declared.Func.{Func}
+use Rattle.tree_meaning.specs.declared.Func.TheVariants as func
+use Rattle.tree_meaning.specs.declared.Part.{Part}
+use Rattle.tree_meaning.specs.declared.Part.TheVariants as part
+use Rattle.tree_meaning.specs.declared.AggName.{AggName}
+use Rattle.tree_meaning.specs.declared.AggName.TheVariants as aggs
+use Rattle.tree_meaning.specs.Tree.{Step, name, at, Ex, Exs, Arms, lit, path, neg, no, bin, is, member, between, matching, choice, cast, call, trunc, extract, shift, agg_of_rows, agg, no_exs, ex, no_arms, arm}
 
 abbrev right : Gv → Gv
 right gnil = gnil
@@ -35,167 +35,167 @@ number (gnum n) = n
 number (gcons a b) = 0
 
 abbrev pub op_number : BinOp → ℕ
-op_number op.add = 0
-op_number op.sub = 1
-op_number op.mul = 2
-op_number op.div = 3
-op_number op.rem = 4
-op_number op.eq = 5
-op_number op.ne = 6
-op_number op.lt = 7
-op_number op.le = 8
-op_number op.gt = 9
-op_number op.ge = 10
-op_number op.both = 11
-op_number op.either = 12
+op_number op.Add = 0
+op_number op.Sub = 1
+op_number op.Mul = 2
+op_number op.Div = 3
+op_number op.Rem = 4
+op_number op.Eq = 5
+op_number op.Ne = 6
+op_number op.Lt = 7
+op_number op.Le = 8
+op_number op.Gt = 9
+op_number op.Ge = 10
+op_number op.And = 11
+op_number op.Or = 12
 
 abbrev op_of : ℕ → BinOp
-op_of n = slice_index_or (op.add ∷ op.sub ∷ op.mul ∷ op.div ∷ op.rem ∷ op.eq ∷ op.ne ∷ op.lt ∷ op.le ∷ op.gt ∷ op.ge ∷ op.both ∷ op.either ∷ []) n op.add
+op_of n = slice_index_or (op.Add ∷ op.Sub ∷ op.Mul ∷ op.Div ∷ op.Rem ∷ op.Eq ∷ op.Ne ∷ op.Lt ∷ op.Le ∷ op.Gt ∷ op.Ge ∷ op.And ∷ op.Or ∷ []) n op.Add
 
 op_back : (x : BinOp) → op_of (op_number x) ≡ x
-op_back op.add = refl
-op_back op.sub = refl
-op_back op.mul = refl
-op_back op.div = refl
-op_back op.rem = refl
-op_back op.eq = refl
-op_back op.ne = refl
-op_back op.lt = refl
-op_back op.le = refl
-op_back op.gt = refl
-op_back op.ge = refl
-op_back op.both = refl
-op_back op.either = refl
+op_back op.Add = refl
+op_back op.Sub = refl
+op_back op.Mul = refl
+op_back op.Div = refl
+op_back op.Rem = refl
+op_back op.Eq = refl
+op_back op.Ne = refl
+op_back op.Lt = refl
+op_back op.Le = refl
+op_back op.Gt = refl
+op_back op.Ge = refl
+op_back op.And = refl
+op_back op.Or = refl
 
 pub op_inj : (x y : BinOp) → gnum (op_number x) ≡ gnum (op_number y) → x ≡ y
 op_inj x y p = sym (op_back x) ∙ ap (λ g. op_of (number g)) p ∙ op_back y
 
 abbrev pub what_number : IsWhat → ℕ
-what_number what.null = 0
-what_number what.missing = 1
-what_number what.truth = 2
-what_number what.falsehood = 3
+what_number what.Null = 0
+what_number what.Missing = 1
+what_number what.True = 2
+what_number what.False = 3
 
 abbrev what_of : ℕ → IsWhat
-what_of n = slice_index_or (what.null ∷ what.missing ∷ what.truth ∷ what.falsehood ∷ []) n what.null
+what_of n = slice_index_or (what.Null ∷ what.Missing ∷ what.True ∷ what.False ∷ []) n what.Null
 
 what_back : (x : IsWhat) → what_of (what_number x) ≡ x
-what_back what.null = refl
-what_back what.missing = refl
-what_back what.truth = refl
-what_back what.falsehood = refl
+what_back what.Null = refl
+what_back what.Missing = refl
+what_back what.True = refl
+what_back what.False = refl
 
 pub what_inj : (x y : IsWhat) → gnum (what_number x) ≡ gnum (what_number y) → x ≡ y
 what_inj x y p = sym (what_back x) ∙ ap (λ g. what_of (number g)) p ∙ what_back y
 
 abbrev pub how_number : How → ℕ
-how_number how.like = 0
-how_number how.ilike = 1
-how_number how.starts = 2
-how_number how.ends = 3
-how_number how.contains = 4
+how_number how.Like = 0
+how_number how.ILike = 1
+how_number how.Starts = 2
+how_number how.Ends = 3
+how_number how.Contains = 4
 
 abbrev how_of : ℕ → How
-how_of n = slice_index_or (how.like ∷ how.ilike ∷ how.starts ∷ how.ends ∷ how.contains ∷ []) n how.like
+how_of n = slice_index_or (how.Like ∷ how.ILike ∷ how.Starts ∷ how.Ends ∷ how.Contains ∷ []) n how.Like
 
 how_back : (x : How) → how_of (how_number x) ≡ x
-how_back how.like = refl
-how_back how.ilike = refl
-how_back how.starts = refl
-how_back how.ends = refl
-how_back how.contains = refl
+how_back how.Like = refl
+how_back how.ILike = refl
+how_back how.Starts = refl
+how_back how.Ends = refl
+how_back how.Contains = refl
 
 pub how_inj : (x y : How) → gnum (how_number x) ≡ gnum (how_number y) → x ≡ y
 how_inj x y p = sym (how_back x) ∙ ap (λ g. how_of (number g)) p ∙ how_back y
 
 abbrev pub to_number : CastTo → ℕ
-to_number to.integer = 0
-to_number to.boolean = 1
+to_number to.Integer = 0
+to_number to.Boolean = 1
 
 abbrev to_of : ℕ → CastTo
-to_of n = slice_index_or (to.integer ∷ to.boolean ∷ []) n to.integer
+to_of n = slice_index_or (to.Integer ∷ to.Boolean ∷ []) n to.Integer
 
 to_back : (x : CastTo) → to_of (to_number x) ≡ x
-to_back to.integer = refl
-to_back to.boolean = refl
+to_back to.Integer = refl
+to_back to.Boolean = refl
 
 pub to_inj : (x y : CastTo) → gnum (to_number x) ≡ gnum (to_number y) → x ≡ y
 to_inj x y p = sym (to_back x) ∙ ap (λ g. to_of (number g)) p ∙ to_back y
 
 abbrev pub func_number : Func → ℕ
-func_number func.coalesce = 0
-func_number func.null_if = 1
-func_number func.char_length = 2
-func_number func.unix_epoch = 3
-func_number func.unix_micro = 4
+func_number func.Coalesce = 0
+func_number func.NullIf = 1
+func_number func.CharLength = 2
+func_number func.UnixEpoch = 3
+func_number func.UnixMicro = 4
 
 abbrev func_of : ℕ → Func
-func_of n = slice_index_or (func.coalesce ∷ func.null_if ∷ func.char_length ∷ func.unix_epoch ∷ func.unix_micro ∷ []) n func.coalesce
+func_of n = slice_index_or (func.Coalesce ∷ func.NullIf ∷ func.CharLength ∷ func.UnixEpoch ∷ func.UnixMicro ∷ []) n func.Coalesce
 
 func_back : (x : Func) → func_of (func_number x) ≡ x
-func_back func.coalesce = refl
-func_back func.null_if = refl
-func_back func.char_length = refl
-func_back func.unix_epoch = refl
-func_back func.unix_micro = refl
+func_back func.Coalesce = refl
+func_back func.NullIf = refl
+func_back func.CharLength = refl
+func_back func.UnixEpoch = refl
+func_back func.UnixMicro = refl
 
 pub func_inj : (x y : Func) → gnum (func_number x) ≡ gnum (func_number y) → x ≡ y
 func_inj x y p = sym (func_back x) ∙ ap (λ g. func_of (number g)) p ∙ func_back y
 
 abbrev pub part_number : Part → ℕ
-part_number part.microsecond = 0
-part_number part.second = 1
-part_number part.minute = 2
-part_number part.hour = 3
-part_number part.day = 4
-part_number part.week = 5
-part_number part.month = 6
-part_number part.quarter = 7
-part_number part.year = 8
+part_number part.Microsecond = 0
+part_number part.Second = 1
+part_number part.Minute = 2
+part_number part.Hour = 3
+part_number part.Day = 4
+part_number part.Week = 5
+part_number part.Month = 6
+part_number part.Quarter = 7
+part_number part.Year = 8
 
 abbrev part_of : ℕ → Part
-part_of n = slice_index_or (part.microsecond ∷ part.second ∷ part.minute ∷ part.hour ∷ part.day ∷ part.week ∷ part.month ∷ part.quarter ∷ part.year ∷ []) n part.microsecond
+part_of n = slice_index_or (part.Microsecond ∷ part.Second ∷ part.Minute ∷ part.Hour ∷ part.Day ∷ part.Week ∷ part.Month ∷ part.Quarter ∷ part.Year ∷ []) n part.Microsecond
 
 part_back : (x : Part) → part_of (part_number x) ≡ x
-part_back part.microsecond = refl
-part_back part.second = refl
-part_back part.minute = refl
-part_back part.hour = refl
-part_back part.day = refl
-part_back part.week = refl
-part_back part.month = refl
-part_back part.quarter = refl
-part_back part.year = refl
+part_back part.Microsecond = refl
+part_back part.Second = refl
+part_back part.Minute = refl
+part_back part.Hour = refl
+part_back part.Day = refl
+part_back part.Week = refl
+part_back part.Month = refl
+part_back part.Quarter = refl
+part_back part.Year = refl
 
 pub part_inj : (x y : Part) → gnum (part_number x) ≡ gnum (part_number y) → x ≡ y
 part_inj x y p = sym (part_back x) ∙ ap (λ g. part_of (number g)) p ∙ part_back y
 
 abbrev pub aggs_number : AggName → ℕ
-aggs_number aggs.count_all = 0
-aggs_number aggs.count = 1
-aggs_number aggs.sum = 2
-aggs_number aggs.min = 3
-aggs_number aggs.max = 4
-aggs_number aggs.avg = 5
-aggs_number aggs.earliest = 6
-aggs_number aggs.latest = 7
-aggs_number aggs.bool_and = 8
-aggs_number aggs.bool_or = 9
+aggs_number aggs.CountAll = 0
+aggs_number aggs.Count = 1
+aggs_number aggs.Sum = 2
+aggs_number aggs.Min = 3
+aggs_number aggs.Max = 4
+aggs_number aggs.Avg = 5
+aggs_number aggs.Earliest = 6
+aggs_number aggs.Latest = 7
+aggs_number aggs.BoolAnd = 8
+aggs_number aggs.BoolOr = 9
 
 abbrev aggs_of : ℕ → AggName
-aggs_of n = slice_index_or (aggs.count_all ∷ aggs.count ∷ aggs.sum ∷ aggs.min ∷ aggs.max ∷ aggs.avg ∷ aggs.earliest ∷ aggs.latest ∷ aggs.bool_and ∷ aggs.bool_or ∷ []) n aggs.count_all
+aggs_of n = slice_index_or (aggs.CountAll ∷ aggs.Count ∷ aggs.Sum ∷ aggs.Min ∷ aggs.Max ∷ aggs.Avg ∷ aggs.Earliest ∷ aggs.Latest ∷ aggs.BoolAnd ∷ aggs.BoolOr ∷ []) n aggs.CountAll
 
 aggs_back : (x : AggName) → aggs_of (aggs_number x) ≡ x
-aggs_back aggs.count_all = refl
-aggs_back aggs.count = refl
-aggs_back aggs.sum = refl
-aggs_back aggs.min = refl
-aggs_back aggs.max = refl
-aggs_back aggs.avg = refl
-aggs_back aggs.earliest = refl
-aggs_back aggs.latest = refl
-aggs_back aggs.bool_and = refl
-aggs_back aggs.bool_or = refl
+aggs_back aggs.CountAll = refl
+aggs_back aggs.Count = refl
+aggs_back aggs.Sum = refl
+aggs_back aggs.Min = refl
+aggs_back aggs.Max = refl
+aggs_back aggs.Avg = refl
+aggs_back aggs.Earliest = refl
+aggs_back aggs.Latest = refl
+aggs_back aggs.BoolAnd = refl
+aggs_back aggs.BoolOr = refl
 
 pub aggs_inj : (x y : AggName) → gnum (aggs_number x) ≡ gnum (aggs_number y) → x ≡ y
 aggs_inj x y p = sym (aggs_back x) ∙ ap (λ g. aggs_of (number g)) p ∙ aggs_back y
