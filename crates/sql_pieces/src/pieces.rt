@@ -3,15 +3,15 @@ ghost use Rattle.std.specs.Prelude.{◌≡◌, ◌++◌, decimal, OnOk};
 use itoa::Buffer;
 use snel_values::{Bytes, OutOfMemory};
 
-/// Adds the piece.
-pub(crate) fn put(text: &mut Bytes, piece: &str) -> Result<(), OutOfMemory>
+/// Adds the piece, all of it or, for want of memory, nothing.
+pub fn put(text: &mut Bytes, piece: &str) -> Result<(), OutOfMemory>
     ensures { OnOk result (text.new ≡ text.old ++ piece.now) }
 {
     text.push_all(piece.as_bytes())
 }
 
-/// Adds the number's decimal digits.
-pub(crate) fn put_digits(text: &mut Bytes, number: u128) -> Result<(), OutOfMemory>
+/// Adds the number's decimal digits, all of them or, for want of memory, none.
+pub fn put_digits(text: &mut Bytes, number: u128) -> Result<(), OutOfMemory>
     ensures { OnOk result (text.new ≡ text.old ++ decimal number) }
 {
     let mut digits = Buffer::new();
