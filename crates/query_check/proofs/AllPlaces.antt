@@ -9,9 +9,9 @@ use Rattle.check_meaning.specs.Places.{places}
 use Rattle.check_meaning.specs.Parts.{parts}
 use Rattle.check_meaning.specs.Aggregates.{asks_a_group, is_grouped, aggregates}
 use Rattle.check_meaning.specs.Verdict.{first_place}
-use Rattle.query_check.proofs.Listed.{some_is}
-use Rattle.query_check.proofs.Searching.{drop_at, drop_end, find_here, find_next, find_end}
-use Rattle.query_check.proofs.Walking.{gathered, gathered_append}
+use Rattle.query_walk.proofs.Listed.{some_is}
+use Rattle.query_walk.proofs.Searching.{drop_at, drop_end, find_here, find_next, find_end}
+use Rattle.query_walk.proofs.Walking.{gathered, gathered_append}
 
 any_found : {A : Type 0} (p : A → Bool) (xs : List A) → list_any p xs ≡ is_some (find p xs)
 any_found p [] = refl

@@ -13,7 +13,7 @@ use Rattle.check_meaning.specs.Tests.{has_long_path}
 use Rattle.check_meaning.specs.Aggregates.{is_grouped, asks_a_group, aggregates}
 use Rattle.check_meaning.specs.Verdict.{passed_limit, first_place}
 use Rattle.query_check.specs.Placed.{IsWithin}
-use Rattle.query_check.proofs.Listed.{some_is}
+use Rattle.query_walk.proofs.Listed.{some_is}
 use Rattle.query_check.proofs.AllPlaces.{any_place, some_mapped}
 
 past : (m n k : ℕ) → k ≡ n → m < k → nat_lt m n ≡ true

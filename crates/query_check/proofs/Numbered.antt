@@ -8,7 +8,7 @@ use Rattle.snel_values.specs.declared.steps.Step.{Step}
 use Rattle.snel_values.specs.declared.steps.Step.TheVariants as step
 use Rattle.query_tree.specs.View.{step_view}
 use Rattle.check_meaning.specs.Names.{last_name}
-use Rattle.query_check.proofs.Listed.{some_is, mapped_at}
+use Rattle.query_walk.proofs.Listed.{some_is, mapped_at}
 
 module _ {A : Type 0} where
   pub numbered_at : (xs : List A) (n k : ℕ) (x : A) → slice_get xs k ≡ Some x → slice_get (enumerate_from n xs) k ≡ Some (n + k, x)

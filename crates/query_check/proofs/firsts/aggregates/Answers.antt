@@ -3,7 +3,7 @@ use Rattle.query_tree.specs.View.{view}
 use Rattle.query_tree.specs.Queries.{query_view}
 use Rattle.check_meaning.specs.Places.{places}
 use Rattle.query_check.specs.Faults.{place_view}
-use Rattle.query_check.proofs.Walking.{gathered}
+use Rattle.query_walk.proofs.Walking.{gathered}
 use Rattle.query_check.proofs.AllPlaces.{all_parts, gathered_place, gathered_done, aggregates_are}
 use Rattle.query_check.proofs.firsts.aggregates.Goals as goal
 
