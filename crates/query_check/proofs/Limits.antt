@@ -1,13 +1,12 @@
 -- Which limit is passed, and whether a query is grouped.
-use Rattle.std.proofs.Common.{◌≡◌, ℕ, zero, suc, ◌+◌, ◌-◌, ◌<◌, ◌≤◌, Bool, true, false, List, [], ◌∷◌, length, map, take, Option, Some, None, refl, sym, ◌∙◌, ap, arith}
-use Rattle.std.specs.Prelude.{slice_get, nat_lt, is_some, if◌then◌else◌}
+use Rattle.std.proofs.Common.{◌≡◌, ℕ, zero, suc, ◌<◌, ◌≤◌, Bool, true, false, List, [], ◌∷◌, length, take, Option, Some, None, refl, sym, ◌∙◌, ap, arith}
+use Rattle.std.specs.Prelude.{slice_get, nat_lt, is_some}
 use Rattle.std.specs.Option.{option_map}
 use Rattle.std.specs.Str.{bytes_eq}
 use Rattle.std.specs.List.{list_any}
 use Rattle.std.proofs.lemmas.Bool.Decides.{nat_tests}
 use Rattle.tree_meaning.specs.Tree.{Query}
 use Rattle.check_meaning.specs.Limit as limit
-use Rattle.check_meaning.specs.Place.{Place}
 use Rattle.check_meaning.specs.Places.{output_exs}
 use Rattle.check_meaning.specs.Tests.{has_long_path}
 use Rattle.check_meaning.specs.Aggregates.{is_grouped, asks_a_group, aggregates}

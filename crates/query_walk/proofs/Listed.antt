@@ -1,5 +1,5 @@
 -- Two lists, compared element by element.
-use Rattle.std.proofs.Common.{◌≡◌, ℕ, zero, suc, ◌+◌, ◌<◌, ◌≤◌, List, [], ◌∷◌, length, map, take, drop, Option, Some, None, refl, sym, ◌∙◌, ap, arith, add-one}
+use Rattle.std.proofs.Common.{◌≡◌, ℕ, zero, suc, ◌+◌, ◌<◌, ◌≤◌, List, [], ◌∷◌, length, map, take, drop, Some, None, refl, sym, ◌∙◌, ap, arith, add-one}
 use Rattle.std.specs.Prelude.{slice_get, unwrap_or, Bool, true, false, IsTrue}
 use Rattle.std.specs.Option.{option_map}
 

@@ -1,6 +1,6 @@
 -- A list, searched from a place on.
-use Rattle.std.proofs.Common.{◌≡◌, ℕ, zero, suc, ◌+◌, ◌<◌, ◌≤◌, Bool, true, false, List, [], ◌∷◌, length, drop, Option, Some, None, refl, sym, ◌∙◌, ap, arith, add-one}
-use Rattle.std.specs.Prelude.{slice_get, unwrap_or, IsTrue, find}
+use Rattle.std.proofs.Common.{◌≡◌, ℕ, zero, suc, ◌+◌, ◌≤◌, Bool, true, false, List, [], ◌∷◌, length, drop, Option, Some, None, refl, ◌∙◌, ap, arith, add-one}
+use Rattle.std.specs.Prelude.{slice_get, IsTrue, find}
 use Rattle.std.specs.List.{list_any, position_from}
 use Rattle.tree_meaning.specs.Tree.{Ex}
 use Rattle.check_meaning.specs.Same.{same_ex}

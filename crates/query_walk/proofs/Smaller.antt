@@ -1,5 +1,5 @@
 -- What stands in a list is smaller than the list.
-use Rattle.std.proofs.Common.{◌≡◌, ℕ, zero, suc, ◌+◌, ◌<◌, List, [], ◌∷◌, ◌++◌, length, take, Some, refl, ap, arith, add-one}
+use Rattle.std.proofs.Common.{◌≡◌, ℕ, zero, suc, ◌+◌, ◌<◌, List, [], ◌∷◌, ◌++◌, take, Some, refl, ap, arith, add-one}
 use Rattle.std.specs.Prelude.{slice_get}
 use Rattle.tree_meaning.specs.Tree.{Ex, size, exs, exs_size, arms, arms_size}
 use Rattle.query_walk.proofs.Listed.{some_is}

@@ -1,5 +1,5 @@
 -- The parts of an expression, searched and gathered from a place on.
-use Rattle.std.proofs.Common.{◌≡◌, ℕ, ◌+◌, ◌≤◌, Bool, true, false, ◌||◌, List, [], ◌∷◌, ◌++◌, length, drop, Some, refl, sym, ◌∙◌, ap, append_assoc, map, cond}
+use Rattle.std.proofs.Common.{◌≡◌, ℕ, ◌+◌, ◌≤◌, Bool, true, false, ◌||◌, List, [], ◌∷◌, ◌++◌, length, drop, Some, refl, ◌∙◌, ap, cond}
 use Rattle.std.specs.Prelude.{slice_get, filter, fold}
 use Rattle.std.specs.List.{list_any, flat_map}
 use Rattle.tree_meaning.specs.Tree.{Ex}

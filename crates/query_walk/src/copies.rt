@@ -29,7 +29,14 @@ fn copy_node(alloc: Global, expr: &Expr) -> Result<Operand, OutOfMemory>
         Expr::Bin { op, left, right } => {
             let left = copy_expr(alloc, left)?;
             let right = copy_expr(alloc, right)?;
-            Operand::new(alloc, Expr::Bin { op: *op, left, right })
+            Operand::new(
+                alloc,
+                Expr::Bin {
+                    op: *op,
+                    left,
+                    right,
+                },
+            )
         }
         Expr::Is { what, of } => {
             let of = copy_expr(alloc, of)?;
@@ -49,7 +56,14 @@ fn copy_node(alloc: Global, expr: &Expr) -> Result<Operand, OutOfMemory>
         Expr::Match { how, of, text } => {
             let of = copy_expr(alloc, of)?;
             let text = text.copy(alloc)?;
-            Operand::new(alloc, Expr::Match { how: *how, of, text })
+            Operand::new(
+                alloc,
+                Expr::Match {
+                    how: *how,
+                    of,
+                    text,
+                },
+            )
         }
         Expr::Case { arms, other } => {
             let arms = copy_arms(alloc, arms)?;
@@ -75,9 +89,22 @@ fn copy_node(alloc: Global, expr: &Expr) -> Result<Operand, OutOfMemory>
         Expr::Shift { part, count, of } => {
             let count = copy_expr(alloc, count)?;
             let of = copy_expr(alloc, of)?;
-            Operand::new(alloc, Expr::Shift { part: *part, count, of })
+            Operand::new(
+                alloc,
+                Expr::Shift {
+                    part: *part,
+                    count,
+                    of,
+                },
+            )
         }
-        Expr::Agg { name, of: None } => Operand::new(alloc, Expr::Agg { name: *name, of: None }),
+        Expr::Agg { name, of: None } => Operand::new(
+            alloc,
+            Expr::Agg {
+                name: *name,
+                of: None,
+            },
+        ),
         Expr::Agg { name, of: Some(of) } => {
             let of = Some(copy_expr(alloc, of)?);
             Operand::new(alloc, Expr::Agg { name: *name, of })

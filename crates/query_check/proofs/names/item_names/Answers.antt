@@ -1,4 +1,4 @@
-use Rattle.std.proofs.Common.{◌≡◌, ◌∙◌, ◌+◌, ◌≤◌, List, ℕ, map, length, sym, arith, ap}
+use Rattle.std.proofs.Common.{◌≡◌, ◌∙◌, ◌+◌, ◌≤◌, List, ℕ, map, length, arith, ap}
 use Rattle.std.specs.List.{enumerate_from}
 use Rattle.std.specs.Prelude.{Option}
 use Rattle.tree_meaning.specs.Tree.{Ex}

@@ -1,5 +1,4 @@
-use Rattle.std.proofs.Common.{◌≡◌, ◌<◌, ◌≤◌, arith, length, refl, sym}
-use Rattle.tree_meaning.specs.Tree.{size}
+use Rattle.std.proofs.Common.{◌≤◌, arith, length, refl}
 use Rattle.check_meaning.specs.Operands.{operands}
 use Rattle.check_meaning.proofs.OperandParts.{operand_falls}
 use Rattle.query_walk.proofs.Listed.{same_more, same_all}

@@ -1,4 +1,4 @@
-use Rattle.std.proofs.Common.{◌≡◌, ◌∙◌, ◌<◌, ◌*◌, sym, refl, arith, [], ◌∷◌, Some, length}
+use Rattle.std.proofs.Common.{sym, arith, [], ◌∷◌}
 use Rattle.query_walk.proofs.Chains.{behind_arms, in_arm, no_arm, past_case}
 use Rattle.query_walk.proofs.operands.in_case.Goals as goal
 

@@ -3,7 +3,7 @@ use Rattle.check_meaning.specs.Operands.{operands}
 use Rattle.check_meaning.proofs.OperandParts.{operand_falls}
 use Rattle.check_meaning.specs.Parts.{none}
 use Rattle.check_meaning.specs.Tests.{is_doubled}
-use Rattle.query_walk.proofs.Walking.{stopped, found_first, found_later, found_in, not_in, not_found}
+use Rattle.query_walk.proofs.Walking.{found_first, found_later, found_in, not_in, not_found}
 use Rattle.query_walk.proofs.parts.+has_doubled.Goals as goal
 
 pub has_doubled-requires : goal.has_doubled-requires
