@@ -1,9 +1,7 @@
 use crate::eval_row;
-use snel_values::{
-    BinOp, CastTo, Func, How, IsWhat, Items, OutOfMemory, Pairs, Part, Step, Steps, Text, Value,
-    same,
-};
-use sql_tree::{Arm, Arms, Expr, Exprs, Operand};
+use snel_values::{Items, OutOfMemory, Pairs, Step, Steps, Text, Value, same};
+use tree_meaning::{BinOp, CastTo, Func, How, IsWhat, Part};
+use query_tree::{Arm, Arms, Expr, Exprs, Operand};
 use std::alloc::Global;
 use std::test::Fail;
 

@@ -2,10 +2,10 @@ ghost use Rattle.std.specs.Prelude.{◌≡◌, [], ◌∷◌, ◌++◌, length, 
 ghost use Rattle.std.specs.Option.{option_map};
 ghost use Rattle.lane_ssa.specs.EndParts.{out_view, agg_end_view};
 
-use agg_laws::AggName;
 use snel_values::{OutOfMemory, Text};
 use std::alloc::Global;
 use std::marker::Model;
+use tree_meaning::AggName;
 
 /// What a job ends in: the registers that a query's answer is made from.
 #[derive(Drop)]
@@ -142,7 +142,7 @@ pub struct EndAggs {
 
 impl Model for EndAggs {
     ghost use Rattle.std.specs.Prelude.{List, Option, ℕ, map};
-    ghost use Rattle.query_meaning.specs.AggName.{AggName as Aggregate};
+    ghost use Rattle.tree_meaning.specs.declared.AggName.{AggName as Aggregate};
     ghost use Rattle.lane_ssa.specs.CodedJob.{coded_aggs};
     ghost use Rattle.lane_ssa.specs.EndParts.{agg_end_view};
 

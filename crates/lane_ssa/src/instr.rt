@@ -1,4 +1,5 @@
-use snel_values::{BinOp, IsWhat, Text, Value};
+use snel_values::{Text, Value};
+use tree_meaning::{BinOp, IsWhat};
 
 /// One instruction, which makes one register, a mask or a value. Masks and values are numbered apart, from 0 on, each in the
 /// order of making. `mask` is the number of the mask in whose lanes the result is computed; `of`, `a` and `b` are those of
@@ -11,6 +12,11 @@ pub enum Instr {
     True {
         mask: u32,
         of: u32,
+    },
+    /// A mask: the lanes that aren't in the mask `less`.
+    Minus {
+        mask: u32,
+        less: u32,
     },
     /// The row.
     Root {
@@ -48,6 +54,13 @@ pub enum Instr {
     Bin {
         mask: u32,
         op: BinOp,
+        a: u32,
+        b: u32,
+    },
+    /// `a` in the lanes of the mask `pick`, and `b` in the others.
+    Merge {
+        mask: u32,
+        pick: u32,
         a: u32,
         b: u32,
     },

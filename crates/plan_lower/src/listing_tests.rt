@@ -5,9 +5,10 @@ ghost use Rattle.lane_ssa.specs.Views.{ends_view};
 
 use crate::listing;
 use crate::made::{begun, has_line};
-use agg_laws::AggName;
+use tree_meaning::AggName;
 use lane_ssa::{EndAgg, EndAggs, EndOut, EndOuts, Ends, Instr, Registers};
-use snel_values::{BinOp, IsWhat, OutOfMemory, Text, Value};
+use snel_values::{OutOfMemory, Text, Value};
+use tree_meaning::{BinOp, IsWhat};
 use std::alloc::Global;
 use std::test::Fail;
 

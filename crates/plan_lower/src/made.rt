@@ -1,19 +1,20 @@
 //! Trees of well-formed queries, and jobs of one instruction, for the tests.
 ghost use Rattle.std.specs.Prelude.{◌≡◌, ◌<◌, ℕ, [], ◌∷◌, length, IfOk, IfSome};
 ghost use Rattle.std.specs.Option.{option_map};
-ghost use Rattle.query_meaning.specs.WellFormed.{IsFormed, AreOutputs, IsWellFormed};
+ghost use Rattle.tree_meaning.specs.WellFormed.{IsFormed, AreOutputs, IsWellFormed};
 ghost use Rattle.program_meaning.specs.Instructions.{all, make, row};
 ghost use Rattle.program_meaning.specs.Programs.{mask_count, IsInstruction};
 ghost use Rattle.program_meaning.specs.Jobs.{AreEnds};
-ghost use Rattle.sql_tree.specs.View.{view};
-ghost use Rattle.sql_tree.specs.Queries.{outs_view, query_view};
+ghost use Rattle.query_tree.specs.View.{view};
+ghost use Rattle.query_tree.specs.Queries.{outs_view, query_view};
 ghost use Rattle.lane_ssa.specs.Views.{instr_view, ends_view};
 
 use crate::{is_lowered, listing, lower};
 use lane_ssa::{Builder, EndAggs, EndOuts, Ends, Instr, Registers};
 use query_check::check;
-use snel_values::{Bytes, IsWhat, OutOfMemory, Step, Steps, Text};
-use sql_tree::{Expr, Exprs, Operand, OrderKeys, Outputs, Query};
+use snel_values::{Bytes, OutOfMemory, Step, Steps, Text};
+use tree_meaning::IsWhat;
+use query_tree::{Expr, Exprs, Operand, OrderKeys, Outputs, Query};
 use std::alloc::Global;
 
 /// `name`

@@ -1,11 +1,12 @@
 ghost use Rattle.std.specs.Prelude.{◌≡◌, ◌≤◌, length, IfOk, All};
-ghost use Rattle.query_meaning.specs.WellFormed.{IsFormed, IsOutput};
-ghost use Rattle.sql_tree.specs.View.{view};
+ghost use Rattle.tree_meaning.specs.WellFormed.{IsFormed, IsOutput};
+ghost use Rattle.query_tree.specs.View.{view};
 
 use crate::is_lowered;
 use crate::made::{is, listed, not, path, query};
-use snel_values::{BinOp, IsWhat, OutOfMemory, Step, Steps, Text};
-use sql_tree::{Expr, Item, Operand, OutItems, Outputs};
+use snel_values::{OutOfMemory, Step, Steps, Text};
+use tree_meaning::{BinOp, IsWhat};
+use query_tree::{Expr, Item, Operand, OutItems, Outputs};
 use std::alloc::Global;
 use std::test::Fail;
 

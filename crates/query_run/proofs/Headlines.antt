@@ -7,7 +7,7 @@ use Rattle.value_meaning.specs.Val.{Val}
 use Rattle.block_meaning.specs.Tables.{Table}
 use Rattle.block_meaning.specs.Blocks.{IsBlock}
 use Rattle.file_meaning.specs.Files.{Entry, IsFile, bytes_at, AreEntryRows, AreFileRows}
-use Rattle.query_meaning.specs.Tree.{Query}
+use Rattle.tree_meaning.specs.Tree.{Query}
 use Rattle.query_run.specs.Queries.{Accepts}
 use Rattle.query_run.specs.Headline.{AddsAnswer, Headline}
 use Rattle.query_run.specs.Verdicts.{Verdict, no_block_file, bad_block, rows, EndsAs}

@@ -1,6 +1,6 @@
 use query_check::same_expr;
 use sql_reader::read;
-use sql_tree::Outputs;
+use query_tree::Outputs;
 use std::alloc::Global;
 
 // Whether both texts are queries whose first outputs are one tree.

@@ -1,8 +1,8 @@
 use crate::look::Look;
 use crate::whole::parse_query;
 use query_meaning::Mark;
-use snel_values::BinOp;
-use sql_tree::{Expr, Outputs};
+use tree_meaning::BinOp;
+use query_tree::{Expr, Outputs};
 use std::alloc::Global;
 
 fn mark(mark: Mark) -> Look<'static> {

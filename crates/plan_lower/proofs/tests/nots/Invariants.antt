@@ -1,5 +1,5 @@
-use Rattle.query_meaning.specs.WellFormed.{IsFormed}
-use Rattle.sql_tree.specs.View.{view}
+use Rattle.tree_meaning.specs.WellFormed.{IsFormed}
+use Rattle.query_tree.specs.View.{view}
 use Rattle.plan_lower.proofs.tests.nots.Given as goal
 
 abbrev pub invariant-loop : goal.invariant-loop
