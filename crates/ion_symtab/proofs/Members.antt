@@ -1,11 +1,11 @@
 -- The items of lists and the pairs of structs, taken one by one.
-use Rattle.std.proofs.Common.{◌≡◌, ℕ, ◌+◌, ◌-◌, ◌<◌, ◌≤◌, Bool, List, [], ◌∷◌, ◌++◌, Some, None, refl, sym, ap, subst, ◌∙◌, arith}
+use Rattle.std.proofs.Common.{◌≡◌, ℕ, ◌+◌, ◌-◌, ◌<◌, ◌≤◌, List, [], ◌∷◌, ◌++◌, Some, None, sym, ap, subst, ◌∙◌, arith}
 use Rattle.std.proofs.lemmas.List.{append_assoc}
 use Rattle.std.specs.Prelude.{unwrap_or}
-use Rattle.value_meaning.specs.Val.{Val, Vals, Fields, list, struct, size, vals_size, fields_size, vals, fields, items, pairs}
+use Rattle.value_meaning.specs.Val.{Val, size, vals_size, fields_size, vals, fields}
 use Rattle.value_meaning.specs.Pairs.{IsBelow, IsAboveLast}
 use Rattle.block_meaning.specs.Tables.{Table, TextsRise, text_of}
-use Rattle.block_meaning.proofs.Answered.{some_is, none_is}
+use Rattle.block_meaning.proofs.Answered.{none_is}
 use Rattle.block_meaning.proofs.Symbols.{text_of_some, text_of_range, text_of_is}
 use Rattle.ion_cells.specs.Standing.{HasLast}
 use Rattle.ion_symtab.proofs.Lookups.{rising}

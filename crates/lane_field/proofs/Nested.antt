@@ -1,8 +1,7 @@
 -- What the bytes of a cell denote, and those of a list or a struct.
-use Rattle.std.proofs.Common.{◌≡◌, Bool, true, sym, subst, ap, ◌∙◌, List, ℕ, inl, inr}
-use Rattle.value_meaning.specs.Val.{Val, null}
+use Rattle.std.proofs.Common.{◌≡◌, true, sym, ap, ◌∙◌, List, ℕ}
+use Rattle.value_meaning.specs.Val.{Val}
 use Rattle.block_meaning.specs.Tables.{Table}
-use Rattle.block_meaning.specs.Cells.{IsCell}
 use Rattle.block_meaning.specs.CellReading.{is_cell, cell_value}
 use Rattle.ion_cells.specs.declared.cell.Cell.{Cell}
 use Rattle.ion_cells.specs.Shown.{cell_bytes, shown}
