@@ -1,1 +1,3 @@
 pub mod Ungrouped
+pub mod DistinctKeys
+pub mod Shuffled

@@ -1,6 +1,6 @@
 -- The groups of a query's rows, and the value of an expression over one: its parts that are keys or aggregates have the
 -- group's values, the outermost first, and what is left is evaluated in no row.
-use Rattle.std.specs.Prelude.{List, [], ◌∷◌, ◌++◌, map, filter, fold, Option, None, Some, if◌then◌else◌}
+use Rattle.std.specs.Prelude.{List, [], ◌∷◌, map, filter, Option, None, Some, if◌then◌else◌}
 use Rattle.std.specs.List.{list_any}
 use Rattle.std.specs.Option.{option_or}
 use Rattle.value_meaning.specs.Val.{Val, missing}
@@ -15,13 +15,14 @@ use Rattle.eval_meaning.specs.Evaluation.{eval}
 abbrev pub values_on : List Ex → Val → List Val
 values_on es row = map (λ e. eval e (alone row)) es
 
--- the list of keys with another at its end, unless it is there
-abbrev pub with_keys : List (List Val) → List Val → List (List Val)
-with_keys all keys = if list_any (same_keys keys) all then all else all ++ keys ∷ []
+-- the lists of keys and another, unless it is among them
+abbrev pub with_keys : List Val → List (List Val) → List (List Val)
+with_keys keys all = if list_any (same_keys keys) all then all else keys ∷ all
 
--- each list of keys once, where it stands first
+-- each list of keys once
 abbrev pub distinct_keys : List (List Val) → List (List Val)
-distinct_keys all = fold with_keys [] all
+distinct_keys [] = []
+distinct_keys (keys ∷ all) = with_keys keys (distinct_keys all)
 
 -- the values of the keys, and the rows that have them
 pub record Group : Type 0 where
