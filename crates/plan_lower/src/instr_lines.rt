@@ -46,7 +46,7 @@ fn masks_of(instr: &Instr) -> u64
 fn makes_mask(instr: &Instr) -> bool
     ensures { result ≡ program.makes_mask (instr_view instr.now) }
 {
-    matches!(instr, Instr::All | Instr::True { .. })
+    matches!(instr, Instr::All | Instr::True { .. } | Instr::Minus { .. })
 }
 
 /// The line of an instruction behind so many masks and values.
@@ -82,6 +82,7 @@ fn put_made(text: &mut Bytes, instr: &Instr) -> Result<(), OutOfMemory>
     match instr {
         Instr::All => put(text, "all"),
         Instr::True { mask, of } => put_simple(text, "true", *mask, *of),
+        Instr::Minus { mask, less } => put_minus(text, *mask, *less),
         Instr::Root { mask } => put_under(text, "root", *mask),
         Instr::Field { mask, of, name } => put_field(text, *mask, *of, name),
         Instr::At { mask, of, at } => put_at(text, *mask, *of, *at),
@@ -89,6 +90,7 @@ fn put_made(text: &mut Bytes, instr: &Instr) -> Result<(), OutOfMemory>
         Instr::Not { mask, of } => put_simple(text, "not", *mask, *of),
         Instr::Is { mask, what, of } => put_is(text, *mask, *what, *of),
         Instr::Bin { mask, op, a, b } => put_bin(text, *mask, *op, *a, *b),
+        Instr::Merge { mask, pick, a, b } => put_merge(text, *mask, *pick, *a, *b),
     }
 }
 
@@ -162,6 +164,26 @@ fn put_bin(text: &mut Bytes, mask: u32, op: BinOp, a: u32, b: u32) -> Result<(),
     ensures { OnOk result (text.new ≡ text.old ++ spec.made_text (program.bin mask op a b)) }
 {
     put_under(text, op_word(op), mask)?;
+    put_operand(text, a)?;
+    put_operand(text, b)
+}
+
+#[tactic(auto, unfolding(crate::specs::Listing::made_text))]
+fn put_minus(text: &mut Bytes, mask: u32, less: u32) -> Result<(), OutOfMemory>
+    ensures { OnOk result (text.new ≡ text.old ++ spec.made_text (program.minus mask less)) }
+{
+    put_under(text, "minus", mask)?;
+    put(text, " ")?;
+    put_mask(text, u64::from(less))
+}
+
+#[tactic(auto, unfolding(crate::specs::Listing::made_text))]
+fn put_merge(text: &mut Bytes, mask: u32, pick: u32, a: u32, b: u32) -> Result<(), OutOfMemory>
+    ensures { OnOk result (text.new ≡ text.old ++ spec.made_text (program.merge mask pick a b)) }
+{
+    put_under(text, "merge", mask)?;
+    put(text, " ")?;
+    put_mask(text, u64::from(pick))?;
     put_operand(text, a)?;
     put_operand(text, b)
 }

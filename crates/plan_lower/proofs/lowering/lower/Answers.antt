@@ -12,10 +12,10 @@ use Rattle.plan_lower.proofs.PlainJobs.{are_ends, simulates}
 use Rattle.plan_lower.proofs.lowering.lower.Goals as goal
 
 pub emit_filter-requires-clause-lowered : goal.emit_filter-requires-clause-lowered
-emit_filter-requires-clause-lowered c = ap (λ (q : Query). is_lowered_filter q.filter) c.query-query.ensures.value ∙ (lowered_is_plain c.args.checked.now c.requires).filter
+emit_filter-requires-clause-lowered c = ap (λ (q : Query). is_lowered_filter q.filter) c.query-query.ensures.is ∙ (lowered_is_plain c.args.checked.now c.requires).filter
 
 pub emit_outs-requires-clause-lowered : goal.emit_outs-requires-clause-lowered
-emit_outs-requires-clause-lowered c = ap (λ (q : Query). are_lowered_outs q.outs) c.query-query.ensures.value ∙ (lowered_is_plain c.args.checked.now c.requires).outs
+emit_outs-requires-clause-lowered c = ap (λ (q : Query). are_lowered_outs q.outs) c.query-query.ensures.is ∙ (lowered_is_plain c.args.checked.now c.requires).outs
 
 pub finish-requires : goal.finish-requires
 finish-requires c =
@@ -26,7 +26,7 @@ finish-requires c =
     let keep = c.in_ok-keep.keep in
     let outs = c.in_ok-outs.outs in
     subst (λ e. AreEnds (mask_count made) (value_count made) e) (sym (c.plain_ends.ensures ∙ ap (λ b. plain_ends keep b outs) c.is_star-star.ensures))
-    (are_ends q (ap is_lowered c.query-query.ensures.value ∙ c.requires) outs first kept made keep c.in_ok-builder.ensures c.in_ok-keep.ensures c.in_ok-outs.ensures.emitted)
+    (are_ends q (ap is_lowered c.query-query.ensures.is ∙ c.requires) outs first kept made keep c.in_ok-builder.ensures c.in_ok-keep.ensures c.in_ok-outs.ensures.emitted)
 
 pub returns : goal.returns
 returns c =
@@ -36,8 +36,8 @@ returns c =
     let made = c.emit_outs.new.builder in
     let keep = c.in_ok-keep.keep in
     let outs = c.in_ok-outs.outs in
-    subst (λ q. Simulates c.finish.result q) c.query-query.ensures.value
-    (simulates q (ap is_lowered c.query-query.ensures.value ∙ c.requires) outs first kept made keep c.in_ok-builder.ensures c.in_ok-keep.ensures
+    subst (λ q. Simulates c.finish.result q) c.query-query.ensures.is
+    (simulates q (ap is_lowered c.query-query.ensures.is ∙ c.requires) outs first kept made keep c.in_ok-builder.ensures c.in_ok-keep.ensures
     c.in_ok-outs.ensures.emitted c.finish.result (subst IsProgram c.finish.ensures.program c.finish.ensures.job.program) c.finish.ensures.program
     (c.finish.ensures.ends ∙ c.plain_ends.ensures ∙ ap (λ b. plain_ends keep b outs) c.is_star-star.ensures)
-    (c.in_ok-outs.ensures.names ∙ c.names.ensures ∙ ap (λ (p : Query). names p.outs) (sym c.query-query.ensures.value)))
+    (c.in_ok-outs.ensures.names ∙ c.names.ensures ∙ ap (λ (p : Query). names p.outs) (sym c.query-query.ensures.is)))
