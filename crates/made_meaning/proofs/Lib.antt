@@ -1,3 +1,2 @@
 pub mod Ungrouped
-pub mod DistinctKeys
 pub mod Shuffled

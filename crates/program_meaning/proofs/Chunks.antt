@@ -1,16 +1,11 @@
 -- A job that simulates a query lane by lane does so chunk by chunk.
-use Rattle.std.proofs.Common.{◌≡◌, ℕ, zero, suc, ◌+◌, ◌<◌, List, [], ◌∷◌, Option, None, Some, take, drop, slice_get, refl, ap, sym, subst, ◌∙◌, arith}
+use Rattle.std.proofs.Common.{◌≡◌, ℕ, zero, suc, ◌+◌, ◌<◌, List, [], ◌∷◌, Option, None, take, drop, slice_get, refl, ap, sym, subst, ◌∙◌, arith}
 use Rattle.value_meaning.specs.Val.{Val}
 use Rattle.tree_meaning.specs.Tree.{Query}
 use Rattle.eval_meaning.specs.Pair.{alone}
 use Rattle.program_meaning.specs.Jobs.{Job}
 use Rattle.program_meaning.specs.Registers.{State, lane_of, mask_at, after}
-use Rattle.program_meaning.specs.Simulation.{Simulates, SimulatesChunks, ShowsNamed, passes, row_passes, lanes_of}
-
--- a lane passes as its row does
-lane_passes : (q : Query) (row : Option Val) → passes q (lane_of row) ≡ row_passes q row
-lane_passes q None = refl
-lane_passes q (Some v) = refl
+use Rattle.program_meaning.specs.Simulation.{Simulates, SimulatesChunks, ShowsNamed, passes, lanes_of}
 
 get_take : (rows : List Val) (n i : ℕ) → i < n → slice_get (take n rows) i ≡ slice_get rows i
 get_take [] zero i h = refl
@@ -40,8 +35,7 @@ chunks_simulated job q s =
       kept = λ rows first lanes run i h.
           ap (λ (t : State). mask_at t job.ends.keep) (run i h)
           ∙ s.kept (lanes_of (take 16 (drop first rows)) i)
-          ∙ lane_passes q (slice_get (take 16 (drop first rows)) i)
-          ∙ ap (row_passes q) (place_in_chunk rows first i h);
+          ∙ ap (λ (r : Option Val). passes q (lane_of r)) (place_in_chunk rows first i h);
       shows = λ rows first lanes run i h row at k.
           subst (λ t. ShowsNamed job.ends q t (alone row))
           (sym (run i h ∙ ap (λ r. after (lane_of r) job.program) (place_in_chunk rows first i h ∙ at)))

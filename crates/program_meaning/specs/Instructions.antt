@@ -21,7 +21,7 @@ pub data Instr : Type 0 where
   -- r1 = field m0 r0 "a"
   field : (mask a : ℕ) (name : List ℕ) → Instr
   -- r2 = at m0 r1 3
-  item : (mask a place : ℕ) → Instr
+  at : (mask a place : ℕ) → Instr
   -- r3 = const m0 5
   const : (mask : ℕ) (v : Val) → Instr
   -- r4 = add m0 r1 r2

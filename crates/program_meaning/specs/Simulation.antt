@@ -69,20 +69,15 @@ pub record Simulates (job : Job) (q : Query) : Type 0 where
       (p : Pair) → is_kept q.filter p ≡ true
       → ShowsNamed job.ends q (after (live_lane p) job.program) p
 
--- The lanes of a chunk of rows from a place on, the first row in lane 0: a lane without a row is dead.
+-- the lanes of a chunk's rows, the first in lane 0; a lane without a row is dead
 abbrev pub lanes_of : List Val → ℕ → Lane
 lanes_of rows i = lane_of (slice_get rows i)
-
--- what a row that stands in a chunk, or does not, has WHERE say
-abbrev pub row_passes : Query → Option Val → Bool
-row_passes q None = false
-row_passes q (Some row) = is_kept q.filter (alone row)
 
 -- the job simulates the query chunk by chunk: it keeps just the rows on which WHERE is true, and shows their values
 pub record SimulatesChunks (job : Job) (q : Query) : Type 0 where
   pub kept :
       (rows : List Val) (first : ℕ) (lanes : ℕ → State) → HasRun job.program (lanes_of (take 16 (drop first rows))) lanes
-      → (i : ℕ) → i < 16 → mask_at (lanes i) job.ends.keep ≡ row_passes q (slice_get rows (first + i))
+      → (i : ℕ) → i < 16 → mask_at (lanes i) job.ends.keep ≡ passes q (lane_of (slice_get rows (first + i)))
   pub shows :
       (rows : List Val) (first : ℕ) (lanes : ℕ → State) → HasRun job.program (lanes_of (take 16 (drop first rows))) lanes
       → (i : ℕ) → i < 16 → (row : Val) → slice_get rows (first + i) ≡ Some row → is_kept q.filter (alone row) ≡ true

@@ -8,7 +8,7 @@ use Rattle.value_meaning.specs.Val.{Val}
 use Rattle.agg_meaning.specs.Keys.{same_keys}
 use Rattle.agg_meaning.proofs.Keys.{same_keys-exact, same_keys-same}
 use Rattle.agg_meaning.proofs.Shuffles.{shuffled, shuffled_from, flipped_front}
-use Rattle.made_meaning.specs.OverGroups.{with_keys, distinct_keys}
+use Rattle.agg_meaning.specs.Keys.{with_keys, distinct_keys}
 
 or_flip : (a b s : Bool) → (a || (b || s)) ≡ (b || (a || s))
 or_flip true true s = refl
