@@ -1,5 +1,5 @@
 -- Programs that go on by the instructions of expressions.
-use Rattle.std.specs.Prelude.{◌≡◌, ℕ, ◌<◌, Bool, true, ◌&&◌, List, [], ◌∷◌, All, Option, map}
+use Rattle.std.specs.Prelude.{◌≡◌, ℕ, ◌<◌, true, ◌&&◌, List, [], ◌∷◌, All, Option, map}
 use Rattle.value_meaning.specs.Val.{Val}
 use Rattle.tree_meaning.specs.Tree.{Ex}
 use Rattle.eval_meaning.specs.Pair.{Pair}

@@ -141,7 +141,7 @@ fn put_field(text: &mut Bytes, mask: u32, of: u32, name: &Text) -> Result<(), Ou
 
 #[tactic(auto, unfolding(crate::specs::Listing::made_text))]
 fn put_at(text: &mut Bytes, mask: u32, of: u32, at: u32) -> Result<(), OutOfMemory>
-    ensures { OnOk result (text.new ≡ text.old ++ spec.made_text (program.item mask of at)) }
+    ensures { OnOk result (text.new ≡ text.old ++ spec.made_text (program.at mask of at)) }
 {
     put_under(text, "at", mask)?;
     put_operand(text, of)?;

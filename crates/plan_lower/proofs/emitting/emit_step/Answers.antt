@@ -16,7 +16,7 @@ returns-in_ok-name-in-Name c =
 
 pub returns-in-At : goal.returns-in-At
 returns-in-At c =
-    let item = instr.item c.args.mask c.args.of c.in-At.at in
+    let item = instr.at c.args.mask c.args.of c.in-At.at in
     subst (λ s. IfOk c.put-in-At.result (λ r. Applies c.args.builder.now c.put-in-At.new.self (step_of s) c.args.mask c.args.of r))
     (ap step_view (sym c.in-At.is))
     (step_emitted c.put-in-At.result c.args.builder.now c.put-in-At.new.self c.args.mask c.args.of item (step_of (at c.in-At.at)) refl (λ l. refl) c.put-in-At.ensures.ok c.put-in-At.ensures.number)

@@ -26,5 +26,5 @@ loop-at-preserved c =
     let new = c.emit_expr.new.builder in (
       named_more c.loop-at.outs c.push.new.self c.args.names.now c.loop-at.at name register (rw c.in_ok-name.ensures c.name_at.ensures) c.in_ok-push.ensures.ok c.loop-at.invariant.0,
       outputs_more c.args.builder.now mid new c.loop-at.outs c.push.new.self c.args.items.now c.loop-at.at c.args.mask register (item_view c.item_at.result.now) name c.requires.begun.mask c.item_at.ensures
-      c.in_ok-push.ensures.ok c.loop-at.invariant.1 (subst (λ e. Emits mid new e c.args.mask register) c.get.ensures c.in_ok-register.ensures),
+          c.in_ok-push.ensures.ok c.loop-at.invariant.1 (subst (λ e. Emits mid new e c.args.mask register) c.get.ensures c.in_ok-register.ensures),
     )
