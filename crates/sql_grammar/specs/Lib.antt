@@ -1,0 +1,5 @@
+pub mod HeadView
+pub mod CallForms
+pub mod PathForms
+pub mod Tails
+pub mod Nests
