@@ -1,11 +1,8 @@
-ghost use Rattle.std.specs.Prelude.{◌≡◌, drop, map};
-ghost use Rattle.std.specs.Option.{option_map};
+ghost use Rattle.std.specs.Prelude.{map};
 ghost use Rattle.query_meaning.specs.Reading as spec;
 ghost use Rattle.query_tree.specs.View.{step_view};
-ghost use Rattle.sql_words.specs.Gives.{Gives};
 ghost use Rattle.sql_words.specs.ReadsAt.{ReadsAs, ReadsAt};
-ghost use Rattle.sql_words.specs.Seen.{toks};
-ghost use Rattle.sql_grammar.specs.PathForms.{path_behind, steps_behind};
+ghost use Rattle.sql_grammar.specs.PathForms.{ReadsStepAt, path_behind, steps_behind};
 
 use query_meaning::Mark;
 use query_tree::{Expr, Operand};
@@ -58,8 +55,7 @@ fn step_at(
     looks: &[Look<'_>],
     at: usize,
 ) -> Result<Option<(Step, usize)>, ParseFault>
-    ensures { let seen = λ x. (step_view x.0, drop x.1 (toks looks.now)) in
-        Gives (option_map seen) result (spec.step_at (drop at (toks looks.now))) }
+    ensures { ReadsStepAt looks.now at result }
 {
     if let Some(rest) = after(looks, at, Mark::Dot) {
         return Ok(Some(field_at(alloc, looks, rest)?));
