@@ -99,3 +99,11 @@ module _ (room turn : ℕ) (h : turn < room) (f : Reader Ex) (read : Armed) (fro
 pub handed_on : {X Y : Type 0} (e : ParseFault) (o : Option X) (read : Option Y) → Fails e o → (o ≡ None → read ≡ None) → Fails e read
 handed_on fault.NotAQuery o read h go = go h
 handed_on fault.OutOfMemory o read h go = tt
+
+-- want of the test of an arm
+pub no_test : (room turn : ℕ) (h : turn < room) (f : Reader Ex) (read : Armed) (front : List (Ex × Ex)) (rest r : Toks) → read ≡ option_map (behind_arms front) (whens_by f (room - turn) rest) → after m.When rest ≡ Some r → f r ≡ None → read ≡ None
+no_test room turn h f read front rest r sofar when e = sofar ∙ (rw (next room turn h, when, e) refl)
+
+-- want of an arm
+pub no_when : (room turn : ℕ) (h : turn < room) (f : Reader Ex) (read : Armed) (front : List (Ex × Ex)) (rest : Toks) → read ≡ option_map (behind_arms front) (whens_by f (room - turn) rest) → after m.When rest ≡ None → read ≡ None
+no_when room turn h f read front rest sofar e = sofar ∙ (rw (next room turn h, e) refl)

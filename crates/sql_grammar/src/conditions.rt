@@ -1,8 +1,6 @@
-ghost use Rattle.std.specs.Prelude.{◌≡◌};
-ghost use Rattle.query_meaning.specs.Reading as spec;
 ghost use Rattle.sql_words.specs.ReadsAt.{ReadsAt};
 ghost use Rattle.sql_grammar.specs.Nests.{Nests};
-ghost use Rattle.sql_grammar.specs.Tails.{compared_by, denied_by};
+ghost use Rattle.sql_grammar.specs.Rules as rule;
 
 use crate::grammar::Grammar;
 use crate::tails::{is_at, like_at};
@@ -22,7 +20,7 @@ impl<F: Fn(Global, usize, &[Look<'_>], usize) -> Result<(Operand, usize), ParseF
         at: usize,
     ) -> Result<(Operand, usize), ParseFault>
         requires { Nests self.now.room (F.pre self.now.expr) (F.post self.now.expr) }
-        ensures { ReadsAt looks.now at result (spec.pred_by (spec.sum_by (spec.expr_at self.now.room) self.now.room) (spec.expr_at self.now.room) self.now.room) }
+        ensures { ReadsAt looks.now at result (rule.condition self.now.room) }
     {
         let (left, rest) = self.sum(looks, at)?;
         self.tested(left, looks, rest)
@@ -37,7 +35,7 @@ impl<F: Fn(Global, usize, &[Look<'_>], usize) -> Result<(Operand, usize), ParseF
         at: usize,
     ) -> Result<(Operand, usize), ParseFault>
         requires { Nests self.now.room (F.pre self.now.expr) (F.post self.now.expr) }
-        ensures { ReadsAt looks.now at result (spec.tested_by (spec.sum_by (spec.expr_at self.now.room) self.now.room) (spec.expr_at self.now.room) self.now.room of) }
+        ensures { ReadsAt looks.now at result (rule.tested self.now.room of) }
     {
         if let Some((op, rest)) = compare_at(looks, at) {
             return self.compared(op, of, looks, rest);
@@ -63,7 +61,7 @@ impl<F: Fn(Global, usize, &[Look<'_>], usize) -> Result<(Operand, usize), ParseF
         at: usize,
     ) -> Result<(Operand, usize), ParseFault>
         requires { Nests self.now.room (F.pre self.now.expr) (F.post self.now.expr) }
-        ensures { ReadsAt looks.now at result (compared_by (spec.sum_by (spec.expr_at self.now.room) self.now.room) op of) }
+        ensures { ReadsAt looks.now at result (rule.compared self.now.room op of) }
     {
         let (right, behind) = self.sum(looks, at)?;
         Ok((binary(self.alloc, op, of, right)?, behind))
@@ -77,7 +75,7 @@ impl<F: Fn(Global, usize, &[Look<'_>], usize) -> Result<(Operand, usize), ParseF
         at: usize,
     ) -> Result<(Operand, usize), ParseFault>
         requires { Nests self.now.room (F.pre self.now.expr) (F.post self.now.expr) }
-        ensures { ReadsAt looks.now at result (denied_by (spec.test_by (spec.sum_by (spec.expr_at self.now.room) self.now.room) (spec.expr_at self.now.room) self.now.room of)) }
+        ensures { ReadsAt looks.now at result (rule.denied self.now.room of) }
     {
         let (test, behind) = self.test(of, looks, at)?;
         Ok((not(self.alloc, test)?, behind))
@@ -92,7 +90,7 @@ impl<F: Fn(Global, usize, &[Look<'_>], usize) -> Result<(Operand, usize), ParseF
         at: usize,
     ) -> Result<(Operand, usize), ParseFault>
         requires { Nests self.now.room (F.pre self.now.expr) (F.post self.now.expr) }
-        ensures { ReadsAt looks.now at result (spec.test_by (spec.sum_by (spec.expr_at self.now.room) self.now.room) (spec.expr_at self.now.room) self.now.room of) }
+        ensures { ReadsAt looks.now at result (rule.test self.now.room of) }
     {
         if let Some(rest) = after(looks, at, Mark::In) {
             return self.among(of, looks, rest);
@@ -112,7 +110,7 @@ impl<F: Fn(Global, usize, &[Look<'_>], usize) -> Result<(Operand, usize), ParseF
         at: usize,
     ) -> Result<(Operand, usize), ParseFault>
         requires { Nests self.now.room (F.pre self.now.expr) (F.post self.now.expr) }
-        ensures { ReadsAt looks.now at result (spec.range_by (spec.sum_by (spec.expr_at self.now.room) self.now.room) of) }
+        ensures { ReadsAt looks.now at result (rule.range self.now.room of) }
     {
         let (low, rest) = self.sum(looks, at)?;
         let rest = expect(looks, rest, Mark::And)?;
@@ -129,7 +127,7 @@ impl<F: Fn(Global, usize, &[Look<'_>], usize) -> Result<(Operand, usize), ParseF
         at: usize,
     ) -> Result<(Operand, usize), ParseFault>
         requires { Nests self.now.room (F.pre self.now.expr) (F.post self.now.expr) }
-        ensures { ReadsAt looks.now at result (spec.among_by (spec.expr_at self.now.room) self.now.room of) }
+        ensures { ReadsAt looks.now at result (rule.among self.now.room of) }
     {
         let rest = expect(looks, at, Mark::Open)?;
         let (list, rest) = self.list(looks, rest)?;

@@ -1,5 +1,5 @@
-ghost use Rattle.std.specs.Prelude.{◌≡◌};
 ghost use Rattle.query_meaning.specs.Reading as spec;
+ghost use Rattle.sql_grammar.specs.Rules as rule;
 ghost use Rattle.sql_words.specs.ReadsAt.{ReadsAt};
 ghost use Rattle.sql_grammar.specs.Nests.{Nests};
 
@@ -36,7 +36,7 @@ pub fn list(
     looks: &[Look<'_>],
     at: usize,
 ) -> Result<(Exprs, usize), ParseFault>
-    ensures { ReadsAt looks.now at result (spec.list_by (spec.expr_at room) room) }
+    ensures { ReadsAt looks.now at result (rule.list room) }
 {
     let grammar = Grammar { alloc, room, expr };
     grammar.list(looks, at)
@@ -64,7 +64,7 @@ impl<F: Fn(Global, usize, &[Look<'_>], usize) -> Result<(Operand, usize), ParseF
     /// Expressions with commas between them.
     pub(crate) fn list(&self, looks: &[Look<'_>], at: usize) -> Result<(Exprs, usize), ParseFault>
         requires { Nests self.now.room (F.pre self.now.expr) (F.post self.now.expr) }
-        ensures { ReadsAt looks.now at result (spec.list_by (spec.expr_at self.now.room) self.now.room) }
+        ensures { ReadsAt looks.now at result (rule.list self.now.room) }
     {
         let mut all = Exprs::new(self.alloc);
         let mut rest = at;

@@ -1,6 +1,4 @@
-ghost use Rattle.std.specs.Prelude.{◌≡◌};
-ghost use Rattle.query_meaning.specs.declared.Level.TheVariants as level;
-ghost use Rattle.query_meaning.specs.Reading as spec;
+ghost use Rattle.sql_grammar.specs.Rules as rule;
 ghost use Rattle.sql_words.specs.ReadsAt.{ReadsAt};
 ghost use Rattle.sql_grammar.specs.Nests.{IsReader, Nests};
 
@@ -19,7 +17,7 @@ impl<F: Fn(Global, usize, &[Look<'_>], usize) -> Result<(Operand, usize), ParseF
         at: usize,
     ) -> Result<(Operand, usize), ParseFault>
         requires { Nests self.now.room (F.pre self.now.expr) (F.post self.now.expr) }
-        ensures { ReadsAt looks.now at result (spec.or_by (spec.expr_at self.now.room) self.now.room) }
+        ensures { ReadsAt looks.now at result (rule.disjunction self.now.room) }
     {
         chain(
             self.alloc,
@@ -34,7 +32,7 @@ impl<F: Fn(Global, usize, &[Look<'_>], usize) -> Result<(Operand, usize), ParseF
     /// Operands of AND.
     fn conjunction(&self, looks: &[Look<'_>], at: usize) -> Result<(Operand, usize), ParseFault>
         requires { Nests self.now.room (F.pre self.now.expr) (F.post self.now.expr) }
-        ensures { ReadsAt looks.now at result (spec.and_by (spec.expr_at self.now.room) self.now.room) }
+        ensures { ReadsAt looks.now at result (rule.conjunction self.now.room) }
     {
         chain(
             self.alloc,
@@ -49,7 +47,7 @@ impl<F: Fn(Global, usize, &[Look<'_>], usize) -> Result<(Operand, usize), ParseF
     /// NOT any number of times, and a test.
     fn negation(&self, looks: &[Look<'_>], at: usize) -> Result<(Operand, usize), ParseFault>
         requires { Nests self.now.room (F.pre self.now.expr) (F.post self.now.expr) }
-        ensures { ReadsAt looks.now at result (spec.neg_by (spec.expr_at self.now.room) self.now.room) }
+        ensures { ReadsAt looks.now at result (rule.negation self.now.room) }
     {
         let (count, rest) = skip(looks, at, Mark::Not);
         let (test, behind) = self.condition(looks, rest)?;
@@ -59,7 +57,7 @@ impl<F: Fn(Global, usize, &[Look<'_>], usize) -> Result<(Operand, usize), ParseF
     /// Operands of `+` and `-`.
     pub(crate) fn sum(&self, looks: &[Look<'_>], at: usize) -> Result<(Operand, usize), ParseFault>
         requires { Nests self.now.room (F.pre self.now.expr) (F.post self.now.expr) }
-        ensures { ReadsAt looks.now at result (spec.sum_by (spec.expr_at self.now.room) self.now.room) }
+        ensures { ReadsAt looks.now at result (rule.sum self.now.room) }
     {
         chain(
             self.alloc,
@@ -74,7 +72,7 @@ impl<F: Fn(Global, usize, &[Look<'_>], usize) -> Result<(Operand, usize), ParseF
     /// Operands of `*`, `/` and `%`.
     fn term(&self, looks: &[Look<'_>], at: usize) -> Result<(Operand, usize), ParseFault>
         requires { Nests self.now.room (F.pre self.now.expr) (F.post self.now.expr) }
-        ensures { ReadsAt looks.now at result (spec.term_by (spec.expr_at self.now.room) self.now.room) }
+        ensures { ReadsAt looks.now at result (rule.term self.now.room) }
     {
         chain(
             self.alloc,
@@ -89,7 +87,7 @@ impl<F: Fn(Global, usize, &[Look<'_>], usize) -> Result<(Operand, usize), ParseF
     /// Signs, and what they stand before.
     fn signed(&self, looks: &[Look<'_>], at: usize) -> Result<(Operand, usize), ParseFault>
         requires { Nests self.now.room (F.pre self.now.expr) (F.post self.now.expr) }
-        ensures { ReadsAt looks.now at result (spec.minus_by (spec.expr_at self.now.room) self.now.room) }
+        ensures { ReadsAt looks.now at result (rule.signed self.now.room) }
     {
         let (count, rest) = skip(looks, at, Mark::Minus);
         let (operand, behind) = self.operand(looks, rest)?;
@@ -106,8 +104,8 @@ fn chain<G: Fn(&[Look<'_>], usize) -> Result<(Operand, usize), ParseFault>>(
     looks: &[Look<'_>],
     at: usize,
 ) -> Result<(Operand, usize), ParseFault>
-    requires { IsReader (spec.operand_by (spec.expr_at room) room level) (G.pre operand) (G.post operand) }
-    ensures { ReadsAt looks.now at result (spec.level_by (spec.expr_at room) room level) }
+    requires { IsReader (rule.operand_of room level) (G.pre operand) (G.post operand) }
+    ensures { ReadsAt looks.now at result (rule.level room level) }
 {
     let (mut left, mut rest) = operand(looks, at)?;
     for _turn in 0..room {
@@ -115,7 +113,8 @@ fn chain<G: Fn(&[Look<'_>], usize) -> Result<(Operand, usize), ParseFault>>(
             return Ok((left, rest));
         };
         let (right, behind) = operand(looks, next)?;
-        left = binary(alloc, op, left, right)?;
+        let both = binary(alloc, op, left, right)?;
+        left = both;
         rest = behind;
     }
     Err(ParseFault::NotAQuery)

@@ -1,6 +1,5 @@
-ghost use Rattle.std.specs.Prelude.{◌≡◌};
 ghost use Rattle.tree_meaning.specs.Tree as tree;
-ghost use Rattle.query_meaning.specs.Reading as spec;
+ghost use Rattle.sql_grammar.specs.Rules as rule;
 ghost use Rattle.sql_words.specs.ReadsAt.{ReadsAs, ReadsAt};
 ghost use Rattle.sql_grammar.specs.Nests.{Nests};
 
@@ -26,7 +25,7 @@ impl<F: Fn(Global, usize, &[Look<'_>], usize) -> Result<(Operand, usize), ParseF
         at: usize,
     ) -> Result<(Operand, usize), ParseFault>
         requires { Nests self.now.room (F.pre self.now.expr) (F.post self.now.expr) }
-        ensures { ReadsAt looks.now at result (spec.prim_by (spec.expr_at self.now.room) self.now.room) }
+        ensures { ReadsAt looks.now at result (rule.operand self.now.room) }
     {
         match token(looks, at) {
             Some(Look::Number(number)) => {
@@ -57,7 +56,7 @@ impl<F: Fn(Global, usize, &[Look<'_>], usize) -> Result<(Operand, usize), ParseF
         at: usize,
     ) -> Result<(Operand, usize), ParseFault>
         requires { Nests self.now.room (F.pre self.now.expr) (F.post self.now.expr) }
-        ensures { ReadsAt looks.now at result (spec.marked_by (spec.expr_at self.now.room) self.now.room mark) }
+        ensures { ReadsAt looks.now at result (rule.marked self.now.room mark) }
     {
         match mark {
             Mark::Open => self.parens(looks, at),
@@ -79,7 +78,7 @@ impl<F: Fn(Global, usize, &[Look<'_>], usize) -> Result<(Operand, usize), ParseF
         at: usize,
     ) -> Result<(Operand, usize), ParseFault>
         requires { Nests self.now.room (F.pre self.now.expr) (F.post self.now.expr) }
-        ensures { ReadsAt looks.now at result (spec.word_by (spec.expr_at self.now.room) self.now.room name.now) }
+        ensures { ReadsAt looks.now at result (rule.word self.now.room name.now) }
     {
         let Some(rest) = after(looks, at, Mark::Open) else {
             let first = Text::of(self.alloc, name)?;
@@ -100,7 +99,7 @@ impl<F: Fn(Global, usize, &[Look<'_>], usize) -> Result<(Operand, usize), ParseF
         at: usize,
     ) -> Result<(Operand, usize), ParseFault>
         requires { Nests self.now.room (F.pre self.now.expr) (F.post self.now.expr) }
-        ensures { ReadsAt looks.now at result (spec.call_by (spec.expr_at self.now.room) self.now.room function) }
+        ensures { ReadsAt looks.now at result (rule.call self.now.room function) }
     {
         if let Some(rest) = rows_at(function, looks, at) {
             let behind = expect(looks, rest, Mark::Close)?;
@@ -123,7 +122,7 @@ impl<F: Fn(Global, usize, &[Look<'_>], usize) -> Result<(Operand, usize), ParseF
         at: usize,
     ) -> Result<(Operand, usize), ParseFault>
         requires { Nests self.now.room (F.pre self.now.expr) (F.post self.now.expr) }
-        ensures { ReadsAt looks.now at result (spec.match_by (spec.expr_at self.now.room) how) }
+        ensures { ReadsAt looks.now at result (rule.matched self.now.room how) }
     {
         let (of, rest) = self.expr(looks, at)?;
         match_end(self.alloc, how, of, looks, rest)
@@ -138,7 +137,7 @@ impl<F: Fn(Global, usize, &[Look<'_>], usize) -> Result<(Operand, usize), ParseF
         at: usize,
     ) -> Result<(Operand, usize), ParseFault>
         requires { Nests self.now.room (F.pre self.now.expr) (F.post self.now.expr) }
-        ensures { ReadsAt looks.now at result (spec.args_by (spec.expr_at self.now.room) self.now.room function) }
+        ensures { ReadsAt looks.now at result (rule.args self.now.room function) }
     {
         let (head, rest) = head_at(function, looks, at)?;
         let (list, rest) = self.list(looks, rest)?;
@@ -151,7 +150,7 @@ impl<F: Fn(Global, usize, &[Look<'_>], usize) -> Result<(Operand, usize), ParseF
     #[tactic(auto, unfolding(query_meaning::specs::Reading::parens_by))]
     fn parens(&self, looks: &[Look<'_>], at: usize) -> Result<(Operand, usize), ParseFault>
         requires { Nests self.now.room (F.pre self.now.expr) (F.post self.now.expr) }
-        ensures { ReadsAt looks.now at result (spec.parens_by (spec.expr_at self.now.room)) }
+        ensures { ReadsAt looks.now at result (rule.parens self.now.room) }
     {
         let (inner, rest) = self.expr(looks, at)?;
         let behind = expect(looks, rest, Mark::Close)?;
@@ -162,7 +161,7 @@ impl<F: Fn(Global, usize, &[Look<'_>], usize) -> Result<(Operand, usize), ParseF
     #[tactic(auto, unfolding(query_meaning::specs::Reading::cast_by))]
     fn cast(&self, looks: &[Look<'_>], at: usize) -> Result<(Operand, usize), ParseFault>
         requires { Nests self.now.room (F.pre self.now.expr) (F.post self.now.expr) }
-        ensures { ReadsAt looks.now at result (spec.cast_by (spec.expr_at self.now.room)) }
+        ensures { ReadsAt looks.now at result (rule.cast self.now.room) }
     {
         let rest = expect(looks, at, Mark::Open)?;
         let (of, rest) = self.expr(looks, rest)?;
@@ -173,7 +172,7 @@ impl<F: Fn(Global, usize, &[Look<'_>], usize) -> Result<(Operand, usize), ParseF
     #[tactic(auto, unfolding(query_meaning::specs::Reading::case_by))]
     fn case(&self, looks: &[Look<'_>], at: usize) -> Result<(Operand, usize), ParseFault>
         requires { Nests self.now.room (F.pre self.now.expr) (F.post self.now.expr) }
-        ensures { ReadsAt looks.now at result (spec.case_by (spec.expr_at self.now.room) self.now.room) }
+        ensures { ReadsAt looks.now at result (rule.case self.now.room) }
     {
         let (arms, rest) = self.whens(looks, at)?;
         let (other, behind) = self.other(looks, rest)?;
@@ -183,7 +182,7 @@ impl<F: Fn(Global, usize, &[Look<'_>], usize) -> Result<(Operand, usize), ParseF
     /// The arms of a CASE.
     fn whens(&self, looks: &[Look<'_>], at: usize) -> Result<(Arms, usize), ParseFault>
         requires { Nests self.now.room (F.pre self.now.expr) (F.post self.now.expr) }
-        ensures { ReadsAs tree.arms looks.now at result (spec.whens_by (spec.expr_at self.now.room) self.now.room) }
+        ensures { ReadsAs tree.arms looks.now at result (rule.whens self.now.room) }
     {
         let mut all = Arms::new(self.alloc);
         let mut rest = at;
@@ -205,7 +204,7 @@ impl<F: Fn(Global, usize, &[Look<'_>], usize) -> Result<(Operand, usize), ParseF
     #[tactic(auto, unfolding(query_meaning::specs::Reading::else_by))]
     fn other(&self, looks: &[Look<'_>], at: usize) -> Result<(Operand, usize), ParseFault>
         requires { Nests self.now.room (F.pre self.now.expr) (F.post self.now.expr) }
-        ensures { ReadsAt looks.now at result (spec.else_by (spec.expr_at self.now.room)) }
+        ensures { ReadsAt looks.now at result (rule.other self.now.room) }
     {
         match after(looks, at, Mark::Else) {
             None => {

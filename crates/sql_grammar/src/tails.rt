@@ -1,4 +1,3 @@
-ghost use Rattle.std.specs.Prelude.{◌≡◌};
 ghost use Rattle.query_meaning.specs.Reading as spec;
 ghost use Rattle.sql_words.specs.ReadsAt.{ReadsAt};
 

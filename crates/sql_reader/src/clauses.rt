@@ -187,7 +187,8 @@ fn key(
 #[tactic(auto, unfolding(query_meaning::specs::Reading::direction_at))]
 fn direction_at(looks: &[Look<'_>], at: usize) -> (bool, usize)
     ensures falling { result.0 ≡ (spec.direction_at (drop at (toks looks.now))).0 }
-    ensures rest { drop result.1 (toks looks.now) ≡ (spec.direction_at (drop at (toks looks.now))).1 }
+    ensures rest { let read = spec.direction_at (drop at (toks looks.now)) in
+        drop result.1 (toks looks.now) ≡ read.1 }
 {
     if let Some(rest) = after(looks, at, Mark::Desc) {
         return (true, rest);

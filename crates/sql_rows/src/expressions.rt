@@ -13,8 +13,8 @@ use sql_forms::{
 use std::alloc::Global;
 use tree_meaning::{AggName, BinOp, CastTo, Func, How, IsWhat, Part};
 
-/// The same expression, its paths without the row's name. Each form has a function of its own, so that
-/// the frames of a deep tree are small.
+/// The same expression, its paths without the row's name. Each form has a function of its own, so
+/// that the frames of a deep tree are small.
 #[cycle(short)]
 pub(crate) fn short(alloc: Global, row: &str, of: &Operand) -> Result<Operand, OutOfMemory>
     ensures { IfOk result (λ e. e ≡ spec.short row.now of.now) }
@@ -49,7 +49,8 @@ fn same_literal(alloc: Global, value: &Value) -> Result<Operand, OutOfMemory>
 
 /// The same path, without the row's name.
 fn short_path(alloc: Global, row: &str, from: u8, steps: &Steps) -> Result<Operand, OutOfMemory>
-    ensures { IfOk result (λ e. e ≡ spec.short row.now (tree.path from (map step_view steps.now))) }
+    ensures { let path = tree.path from (map step_view steps.now) in
+        IfOk result (λ e. e ≡ spec.short row.now path) }
 {
     let steps = short_steps(alloc, row, steps)?;
     Operand::new(alloc, Expr::Path { row: from, steps })
@@ -70,7 +71,8 @@ fn short_neg(alloc: Global, row: &str, of: &Operand) -> Result<Operand, OutOfMem
     let (count, below) = signs(of, 4_096);
     let short = short(alloc, row, below)?;
     let inner = negs(alloc, count, short)?;
-    Operand::new(alloc, Expr::Neg(inner))
+    let all = Operand::new(alloc, Expr::Neg(inner))?;
+    Ok(all)
 }
 
 /// NOT before an operand. The NOTs that follow it are counted.
@@ -81,7 +83,8 @@ fn short_not(alloc: Global, row: &str, of: &Operand) -> Result<Operand, OutOfMem
     let (count, below) = denials(of, 4_096);
     let short = short(alloc, row, below)?;
     let inner = nots(alloc, count, short)?;
-    Operand::new(alloc, Expr::Not(inner))
+    let all = Operand::new(alloc, Expr::Not(inner))?;
+    Ok(all)
 }
 
 /// `left op right`
@@ -93,7 +96,8 @@ fn short_bin(
     left: &Operand,
     right: &Operand,
 ) -> Result<Operand, OutOfMemory>
-    ensures { IfOk result (λ e. e ≡ tree.bin op (spec.short row.now left.now) (spec.short row.now right.now)) }
+    ensures { let short = spec.short row.now in
+        IfOk result (λ e. e ≡ tree.bin op (short left.now) (short right.now)) }
 {
     let left = short(alloc, row, left)?;
     let right = short(alloc, row, right)?;
@@ -182,7 +186,8 @@ fn short_cast(alloc: Global, row: &str, of: &Operand, to: CastTo) -> Result<Oper
 /// A call of a function of values.
 #[cycle(short)]
 fn short_call(alloc: Global, row: &str, name: Func, args: &Exprs) -> Result<Operand, OutOfMemory>
-    ensures { IfOk result (λ e. e ≡ tree.call name (spec.short_exs row.now (tree.exs args.now))) }
+    ensures { let args = spec.short_exs row.now (tree.exs args.now) in
+        IfOk result (λ e. e ≡ tree.call name args) }
 {
     let args = short_exprs(alloc, row, args)?;
     Operand::new(alloc, Expr::Call { name, args })

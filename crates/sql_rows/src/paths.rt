@@ -9,13 +9,15 @@ use std::alloc::Global;
 
 /// The steps of a path without the row's name.
 pub(crate) fn short_steps(alloc: Global, row: &str, steps: &Steps) -> Result<Steps, OutOfMemory>
-    ensures { IfOk result (λ s. map step_view s ≡ spec.short_path row.now (map step_view steps.now)) }
+    ensures { let short = spec.short_path row.now (map step_view steps.now) in
+        IfOk result (λ s. map step_view s ≡ short) }
 {
     let from = skipped(row, steps);
     copy_from(alloc, steps, from)
 }
 
-/// How many steps at the front are the row's name: one where a path goes on from it to another name.
+/// How many steps at the front are the row's name: one where a path goes on from it to another
+/// name.
 fn skipped(row: &str, steps: &Steps) -> usize
     ensures { result ≡ skipped row.now (name_step (option_map step_view (slice_get steps.now 0)))
         (name_step (option_map step_view (slice_get steps.now 1))) }
@@ -31,7 +33,8 @@ fn skipped(row: &str, steps: &Steps) -> usize
 
 /// The name that the step at a place is, if it is one.
 fn name_step(steps: &Steps, at: usize) -> Option<&str>
-    ensures { option_map (λ s. s.now) result ≡ name_step (option_map step_view (slice_get steps.now at)) }
+    ensures { let step = option_map step_view (slice_get steps.now at) in
+        option_map (λ s. s.now) result ≡ name_step step }
 {
     match steps.get(at) {
         Some(Step::Name(name)) => Some(name.as_str()),

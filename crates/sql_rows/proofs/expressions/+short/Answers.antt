@@ -34,10 +34,10 @@ pub short_neg-short-requires : goal.short_neg-short-requires
 short_neg-short-requires t c = let s = smaller_below_signs c.signs-count.result.0 c.args.of.now c.signs-count.result.1.now c.signs-count.ensures in omega (arith, s)
 
 pub short_neg-returns : goal.short_neg-returns
-short_neg-returns t c = signs_shortened c.args.row.now c.signs-count.result.0 c.args.of.now c.signs-count.result.1.now c.in_ok-short.short c.in_ok-inner.inner c.signs-count.ensures c.in_ok-inner.ensures c.in_ok-short.ensures
+short_neg-returns t c = c.in_ok-all.ensures ∙ signs_shortened c.args.row.now c.signs-count.result.0 c.args.of.now c.signs-count.result.1.now c.in_ok-short.short c.in_ok-inner.inner c.signs-count.ensures c.in_ok-inner.ensures c.in_ok-short.ensures
 
 pub short_not-short-requires : goal.short_not-short-requires
 short_not-short-requires t c = let s = smaller_below_nots c.denials-count.result.0 c.args.of.now c.denials-count.result.1.now c.denials-count.ensures in omega (arith, s)
 
 pub short_not-returns : goal.short_not-returns
-short_not-returns t c = nots_shortened c.args.row.now c.denials-count.result.0 c.args.of.now c.denials-count.result.1.now c.in_ok-short.short c.in_ok-inner.inner c.denials-count.ensures c.in_ok-inner.ensures c.in_ok-short.ensures
+short_not-returns t c = c.in_ok-all.ensures ∙ nots_shortened c.args.row.now c.denials-count.result.0 c.args.of.now c.denials-count.result.1.now c.in_ok-short.short c.in_ok-inner.inner c.denials-count.ensures c.in_ok-inner.ensures c.in_ok-short.ensures
