@@ -5,7 +5,5 @@
 mod building;
 mod counting;
 
-pub use building::{
-    between, binary, cast, choice, is, literal, matching, member, negs, not, nots,
-};
+pub use building::{between, binary, cast, choice, is, literal, matching, member, negs, not, nots};
 pub use counting::{denials, signs};

@@ -3,9 +3,9 @@ ghost use Rattle.sql_grammar.specs.Rules as rule;
 ghost use Rattle.sql_words.specs.ReadsAt.{ReadsAt};
 ghost use Rattle.sql_grammar.specs.Nests.{Nests};
 
+use query_meaning::Mark;
 use query_tree::{Exprs, Operand};
 use sql_words::{Look, ParseFault, after};
-use query_meaning::Mark;
 use std::alloc::Global;
 
 /// An expression, within which there is room for so many.

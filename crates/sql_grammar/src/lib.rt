@@ -3,12 +3,12 @@
 #![tactic(auto)]
 
 mod calls;
+mod conditions;
 mod grammar;
 mod heads;
 mod levels;
 mod operands;
 mod paths;
 mod tails;
-mod conditions;
 
 pub use grammar::{Grammar, expr, list};

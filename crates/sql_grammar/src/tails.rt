@@ -4,9 +4,7 @@ ghost use Rattle.sql_words.specs.ReadsAt.{ReadsAt};
 use query_meaning::Mark;
 use query_tree::Operand;
 use sql_forms::{cast, is, matching, not};
-use sql_words::{
-    Look, ParseFault, after, cast_word, expect, how_at, string_at, what_at, word_at,
-};
+use sql_words::{Look, ParseFault, after, cast_word, expect, how_at, string_at, what_at, word_at};
 use std::alloc::Global;
 use tree_meaning::How;
 
