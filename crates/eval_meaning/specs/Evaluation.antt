@@ -1,4 +1,4 @@
--- The value of an expression on a row: one case for each form.
+-- The value of an expression on a pair of a row and an item: one case for each form.
 use Rattle.std.specs.Prelude.{List, [], ◌∷◌}
 use Rattle.value_meaning.specs.Val.{Val, missing}
 use Rattle.tree_meaning.specs.declared.BinOp.{BinOp}
@@ -13,6 +13,7 @@ use Rattle.eval_meaning.specs.Casts.{cast_of}
 use Rattle.eval_meaning.specs.Matching.{matching_of, char_length}
 use Rattle.eval_meaning.specs.Times.{trunc_of, extract_of, shift_of, unix_epoch, unix_micro}
 use Rattle.eval_meaning.specs.Paths.{path_of}
+use Rattle.eval_meaning.specs.Pair.{Pair, source_of}
 
 -- an operator of two operands
 abbrev pub binary : BinOp → Val → Val → Val
@@ -47,34 +48,33 @@ call_of func.CharLength = with_one char_length
 call_of func.UnixEpoch = with_one unix_epoch
 call_of func.UnixMicro = with_one unix_micro
 
--- The value of an expression on a row. A path begins at the row, whatever the number of its row, since a query has one
--- source. An aggregate has no value on one row: MISSING, and only grouped queries have any.
+-- The value of an expression on a pair. An aggregate has no value on one pair: MISSING, and only grouped queries have any.
 abbrev mutual
-  pub eval : Ex → Val → Val
-  eval (lit v) row = v
-  eval (path number steps) row = path_of steps row
-  eval (neg e) row = negative (eval e row)
-  eval (no e) row = not_of (eval e row)
-  eval (bin op a b) row = binary op (eval a row) (eval b row)
-  eval (is what e) row = is_of what (eval e row)
-  eval (member e es) row = member_of (eval e row) (evals es row)
-  eval (between e low high) row = between_of (eval e row) (eval low row) (eval high row)
-  eval (matching how e pattern) row = matching_of how pattern (eval e row)
-  eval (choice arms other) row = choices arms row (eval other row)
-  eval (cast to e) row = cast_of to (eval e row)
-  eval (call f es) row = call_of f (evals es row)
-  eval (trunc part e) row = trunc_of part (eval e row)
-  eval (extract part e) row = extract_of part (eval e row)
-  eval (shift part count e) row = shift_of part (eval count row) (eval e row)
-  eval (agg_of_rows name) row = missing
-  eval (agg name e) row = missing
+  pub eval : Ex → Pair → Val
+  eval (lit v) pair = v
+  eval (path source steps) pair = path_of steps (source_of source pair)
+  eval (neg e) pair = negative (eval e pair)
+  eval (no e) pair = not_of (eval e pair)
+  eval (bin op a b) pair = binary op (eval a pair) (eval b pair)
+  eval (is what e) pair = is_of what (eval e pair)
+  eval (member e es) pair = member_of (eval e pair) (evals es pair)
+  eval (between e low high) pair = between_of (eval e pair) (eval low pair) (eval high pair)
+  eval (matching how e pattern) pair = matching_of how pattern (eval e pair)
+  eval (choice arms other) pair = choices arms pair (eval other pair)
+  eval (cast to e) pair = cast_of to (eval e pair)
+  eval (call f es) pair = call_of f (evals es pair)
+  eval (trunc part e) pair = trunc_of part (eval e pair)
+  eval (extract part e) pair = extract_of part (eval e pair)
+  eval (shift part count e) pair = shift_of part (eval count pair) (eval e pair)
+  eval (agg_of_rows name) pair = missing
+  eval (agg name e) pair = missing
 
   -- the values of expressions, in order
-  pub evals : Exs → Val → List Val
-  evals no_exs row = []
-  evals (ex e es) row = eval e row ∷ evals es row
+  pub evals : Exs → Pair → List Val
+  evals no_exs pair = []
+  evals (ex e es) pair = eval e pair ∷ evals es pair
 
   -- the value of the first arm whose condition is true, else the other value
-  pub choices : Arms → Val → Val → Val
-  choices no_arms row other = other
-  choices (arm test value arms) row other = choice_of (eval test row) (eval value row) (choices arms row other)
+  pub choices : Arms → Pair → Val → Val
+  choices no_arms pair other = other
+  choices (arm test value arms) pair other = choice_of (eval test pair) (eval value pair) (choices arms pair other)
