@@ -1,4 +1,4 @@
-use Rattle.std.proofs.Common.{ap, sym, ◌∙◌, true}
+use Rattle.std.proofs.Common.{ap, sym, ◌∙◌}
 use Rattle.plan_lower.specs.Forms.{is_lowered}
 use Rattle.query_run.specs.Queries.{by_form}
 use Rattle.query_run.proofs.compile.job_of.Goals as goal
