@@ -1,13 +1,17 @@
 -- How a query may end on each verdict.
-use Rattle.std.proofs.Common.{◌≡◌, ℕ, Bool, List, [], ◌∷◌, map, Option, None, refl, ap, sym, subst}
+use Rattle.std.proofs.Common.{◌≡◌, ℕ, Bool, false, List, [], ◌∷◌, map, Option, None, refl, ap, sym, subst}
 use Rattle.std.proofs.lemmas.List.Sorted.{IsPermutation-refl}
 use Rattle.std.specs.Io.KnownBytes.{Appends}
 use Rattle.value_meaning.specs.Val.{Val}
 use Rattle.answer_meaning.specs.Made.{Output, Made}
 use Rattle.answer_meaning.specs.Answers.{IsAnswer}
 use Rattle.tree_meaning.specs.Tree.{Ex, Query}
+use Rattle.check_meaning.specs.Aggregates.{is_grouped}
+use Rattle.eval_meaning.specs.Pair.{Pair}
 use Rattle.eval_meaning.specs.Passed.{passed}
-use Rattle.made_meaning.specs.MadeRows.{made, made_row, output_of}
+use Rattle.made_meaning.specs.MadeRows.{made, made_rows, output_of}
+use Rattle.made_meaning.proofs.Ungrouped.{made_by_rows}
+use Rattle.plan_lower.proofs.PlainQueries.{is_ungrouped}
 use Rattle.query_run.specs.Queries.{Accepts}
 use Rattle.query_run.specs.Headline.{falling, AddsAnswer}
 use Rattle.query_run.specs.Verdicts.{Verdict, no_query, no_such_file, no_block_file, bad_block, rows, unknown, Allows, Wrote, EndsAs}
@@ -15,9 +19,9 @@ use Rattle.query_run.proofs.Forms.{IsUncut, lowered_is_uncut}
 use Rattle.query_run.proofs.Sink.{Took, lines_of, Keeps-same, Appends-nothing}
 
 -- the outputs of the made rows are those of the rows that pass
-outputs_of : (q : Query) (rs : List Val) → map (output_of q.outs) rs ≡ map (λ (m : Made). m.output) (map (made_row q) rs)
+outputs_of : (q : Query) (ps : List Pair) → map (output_of q.outs) ps ≡ map (λ (m : Made). m.output) (made_rows q ps)
 outputs_of q [] = refl
-outputs_of q (r ∷ rs) = ap (λ (l : List Output). output_of q.outs r ∷ l) (outputs_of q rs)
+outputs_of q (p ∷ ps) = ap (λ (l : List Output). output_of q.outs p ∷ l) (outputs_of q ps)
 
 -- made rows in their order are an answer, where nothing is sorted or cut
 plain_answer : (ms : List Made) → IsAnswer [] 0 None ms (map (λ (m : Made). m.output) ms)
@@ -28,20 +32,21 @@ plain_answer ms = record {
   cut = refl;
 }
 
-answer_of : (q : Query) → IsUncut q → (rs : List Val) → IsAnswer (falling q) q.skip q.take (made q rs) (map (output_of q.outs) (passed q rs))
-answer_of q h rs =
+answer_of : (q : Query) → is_grouped q ≡ false → IsUncut q → (rs : List Val) → IsAnswer (falling q) q.skip q.take (made q rs) (map (output_of q.outs) (passed q rs))
+answer_of q ungrouped h rs =
     let out = map (output_of q.outs) (passed q rs) in
     let falls : falling q ≡ [] = ap (λ (o : List (Ex × Bool)). map (λ k. k.1) o) h.order in
     subst (λ (fs : List Bool). IsAnswer fs q.skip q.take (made q rs) out) (sym falls)
     (subst (λ (n : ℕ). IsAnswer [] n q.take (made q rs) out) (sym h.skip)
     (subst (λ (t : Option ℕ). IsAnswer [] 0 t (made q rs) out) (sym h.take)
-    (subst (λ (os : List Output). IsAnswer [] 0 None (made q rs) os) (sym (outputs_of q (passed q rs))) (plain_answer (made q rs)))))
+    (subst (λ (ms : List Made). IsAnswer [] 0 None ms out) (sym (made_by_rows q rs ungrouped))
+    (subst (λ (os : List Output). IsAnswer [] 0 None (made_rows q (passed q rs)) os) (sym (outputs_of q (passed q rs))) (plain_answer (made_rows q (passed q rs)))))))
 
 -- lines of the rows that pass, in their order, are lines of an answer
 pub adds : (sql : List ℕ) (q : Query) → Accepts sql q → (rs : List Val) (status : ℕ) (old new : Option (List ℕ)) → Took status old new (lines_of q rs) → AddsAnswer q rs status old new
 adds sql q taken rs status old new w = record {
   outputs = map (output_of q.outs) (passed q rs);
-  answer = answer_of q (lowered_is_uncut q taken.built) rs;
+  answer = answer_of q (is_ungrouped q taken.built) (lowered_is_uncut q taken.built) rs;
   added = w.added;
   appends = w.appends;
   whole = w.whole;

@@ -1,7 +1,7 @@
 use crate::text_fault::TextFault;
 
 /// What stands against a query over a file, or against explaining one, in the order in which it is looked for.
-#[derive(Clone, Copy, Debug, PartialEq, Eq)]
+#[derive(Clone, Copy)]
 pub enum QueryFault {
     /// The text isn't answered, and why.
     Text(TextFault),

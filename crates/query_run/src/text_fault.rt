@@ -1,7 +1,7 @@
 use query_check::{Limit, Place};
 
 /// Why the text of a query isn't answered. Places in the text count bytes from 0; outputs and keys are counted from 1.
-#[derive(Clone, Copy, Debug, PartialEq, Eq)]
+#[derive(Clone, Copy)]
 pub enum TextFault {
     /// It has more than 65,536 bytes.
     TooLong,

@@ -1,7 +1,7 @@
 use query_run::QueryFault;
 
 /// Why a call ended without the whole answer.
-#[derive(Clone, Copy, Debug, PartialEq, Eq)]
+#[derive(Clone, Copy)]
 pub enum Refusal {
     /// The words aren't accepted.
     Words,
