@@ -1,0 +1,238 @@
+ghost use Rattle.std.specs.Prelude.{◌≡◌, ◌<◌, ℕ, List, IfOk, All};
+ghost use Rattle.program_meaning.specs.Programs.{mask_count, value_count};
+ghost use Rattle.program_meaning.specs.Jobs.{IsAggregate, AreEnds};
+ghost use Rattle.query_meaning.specs.WellFormed.{IsWellFormed};
+ghost use Rattle.sql_tree.specs.Queries.{query_view};
+ghost use Rattle.lane_ssa.specs.Views.{ends_view};
+
+use crate::long_texts::spell;
+use agg_laws::AggName;
+use lane_ssa::{Builder, EndAgg, EndAggs, EndOut, EndOuts, Ends, Instr, Registers};
+use plan_lower::{is_lowered, listing, lower};
+use query_check::check;
+use snel_values::{Bytes, OutOfMemory, Text, Value};
+use sql_reader::read;
+use sql_tree::Query;
+use std::alloc::Global;
+use std::test::Fail;
+
+// The listing of the job of a query, if it is accepted and lowered.
+fn query_listing(alloc: Global, query: Query) -> Option<Bytes>
+    requires { IsWellFormed (query_view query) }
+{
+    let Ok(checked) = check(alloc, query) else {
+        return None
+    };
+    if !is_lowered(checked.query()) {
+        return None;
+    }
+    match lower(alloc, &checked) {
+        Ok(job) => listing(alloc, &job).ok(),
+        Err(_) => None,
+    }
+}
+
+// The listing of the job of a text's query.
+fn text_listing(alloc: Global, text: &str) -> Option<Bytes> {
+    match read(alloc, text) {
+        Ok(query) => query_listing(alloc, query),
+        Err(_) => None,
+    }
+}
+
+// Queries and their listings.
+const LISTINGS: [(&str, &str); 20] = [
+    (
+        "SELECT a FROM t",
+        "m0 = all\nr0 = root m0\nr1 = field m0 r0 \"a\"\nkeep m0\nout \"a\" r1\n",
+    ),
+    ("SELECT * FROM t", "m0 = all\nkeep m0\nstar\n"),
+    (
+        "SELECT a, b.c[1] AS x FROM t WHERE a IS NOT MISSING AND NOT (b IS NULL)",
+        "m0 = all
+r0 = root m0
+r1 = field m0 r0 \"a\"
+r2 = is m0 missing r1
+r3 = not m0 r2
+r4 = root m0
+r5 = field m0 r4 \"b\"
+r6 = is m0 null r5
+r7 = not m0 r6
+r8 = and m0 r3 r7
+m1 = true m0 r8
+r9 = root m1
+r10 = field m1 r9 \"a\"
+r11 = root m1
+r12 = field m1 r11 \"b\"
+r13 = field m1 r12 \"c\"
+r14 = at m1 r13 1
+keep m1
+out \"a\" r10
+out \"x\" r14
+",
+    ),
+    (
+        "SELECT * FROM t WHERE a",
+        "m0 = all\nr0 = root m0\nr1 = field m0 r0 \"a\"\nm1 = true m0 r1\nkeep m1\nstar\n",
+    ),
+    (
+        "SELECT \"a\"\"b\" FROM t",
+        "m0 = all\nr0 = root m0\nr1 = field m0 r0 \"a\"\"b\"\nkeep m0\nout \"a\"\"b\" r1\n",
+    ),
+    (
+        "SELECT a[3] FROM t",
+        "m0 = all\nr0 = root m0\nr1 = field m0 r0 \"a\"\nr2 = at m0 r1 3\nkeep m0\nout \"_1\" r2\n",
+    ),
+    (
+        "SELECT NOT TRUE FROM t",
+        "m0 = all\nr0 = const m0 TRUE\nr1 = not m0 r0\nkeep m0\nout \"_1\" r1\n",
+    ),
+    (
+        "SELECT 1 IS NULL FROM t",
+        "m0 = all\nr0 = const m0 1\nr1 = is m0 null r0\nkeep m0\nout \"_1\" r1\n",
+    ),
+    (
+        "SELECT 1 IS MISSING FROM t",
+        "m0 = all\nr0 = const m0 1\nr1 = is m0 missing r0\nkeep m0\nout \"_1\" r1\n",
+    ),
+    (
+        "SELECT 1 IS TRUE FROM t",
+        "m0 = all\nr0 = const m0 1\nr1 = is m0 true r0\nkeep m0\nout \"_1\" r1\n",
+    ),
+    (
+        "SELECT 1 IS FALSE FROM t",
+        "m0 = all\nr0 = const m0 1\nr1 = is m0 false r0\nkeep m0\nout \"_1\" r1\n",
+    ),
+    (
+        "SELECT TRUE AND FALSE FROM t",
+        "m0 = all\nr0 = const m0 TRUE\nr1 = const m0 FALSE\nr2 = and m0 r0 r1\nkeep m0\nout \"_1\" r2\n",
+    ),
+    (
+        "SELECT TRUE OR FALSE FROM t",
+        "m0 = all\nr0 = const m0 TRUE\nr1 = const m0 FALSE\nr2 = or m0 r0 r1\nkeep m0\nout \"_1\" r2\n",
+    ),
+    (
+        "SELECT NULL FROM t",
+        "m0 = all\nr0 = const m0 NULL\nkeep m0\nout \"_1\" r0\n",
+    ),
+    (
+        "SELECT MISSING FROM t",
+        "m0 = all\nr0 = const m0 MISSING\nkeep m0\nout \"_1\" r0\n",
+    ),
+    (
+        "SELECT TRUE FROM t",
+        "m0 = all\nr0 = const m0 TRUE\nkeep m0\nout \"_1\" r0\n",
+    ),
+    (
+        "SELECT FALSE FROM t",
+        "m0 = all\nr0 = const m0 FALSE\nkeep m0\nout \"_1\" r0\n",
+    ),
+    (
+        "SELECT 17 FROM t",
+        "m0 = all\nr0 = const m0 17\nkeep m0\nout \"_1\" r0\n",
+    ),
+    (
+        "SELECT `1970-01-01 00:00:00z` FROM t",
+        "m0 = all\nr0 = const m0 `1970-01-01T00:00:00Z`\nkeep m0\nout \"_1\" r0\n",
+    ),
+    (
+        "SELECT 'it''s' FROM t",
+        "m0 = all\nr0 = const m0 'it''s'\nkeep m0\nout \"_1\" r0\n",
+    ),
+];
+
+#[test]
+fn queries_have_their_listings(rt: HostRuntime) -> Result<(), Fail> {
+    for (text, wanted) in LISTINGS {
+        let Some(made) = text_listing(rt.alloc(), text) else {
+            return Err("no listing".into())
+        };
+        assert_eq!(rt; made.as_slice(), wanted.as_bytes(), "{text}");
+    }
+    Ok(())
+}
+
+#[test]
+fn a_deep_expression_has_its_listing(rt: HostRuntime) -> Result<(), Fail> {
+    let text = spell(rt.alloc(), ["SELECT * FROM t WHERE ", "NOT ", "a", "", ""], 2_000)?;
+    let Some(made) = text_listing(rt.alloc(), text.as_str()) else {
+        return Err("no listing".into())
+    };
+    let end = b"r2001 = not m0 r2000\nm1 = true m0 r2001\nkeep m1\nstar\n";
+    assert!(rt; made.as_slice().ends_with(end));
+    Ok(())
+}
+
+// The masks 0 and 1, and the values 0 and 1.
+fn program(alloc: Global) -> Result<Builder, OutOfMemory>
+    ensures masks { IfOk result (λ b. mask_count b ≡ 2) }
+    ensures values { IfOk result (λ b. value_count b ≡ 2) }
+{
+    let mut builder = Builder::new(alloc);
+    let mask = builder.put(Instr::All)?;
+    builder.put(Instr::Root { mask })?;
+    builder.put(Instr::All)?;
+    let value = Value::Int(-5);
+    builder.put(Instr::Const { mask, value })?;
+    Ok(builder)
+}
+
+fn outs(alloc: Global) -> Result<EndOuts, OutOfMemory>
+    ensures { IfOk result (λ xs. All (λ (o : List ℕ × ℕ). o.1 < 2) xs) }
+{
+    let mut outs = EndOuts::new(alloc);
+    outs.push(EndOut {
+        name: Text::of(alloc, "a\"b")?,
+        register: 0,
+    })?;
+    Ok(outs)
+}
+
+fn first_value(alloc: Global) -> Result<Registers, OutOfMemory>
+    ensures { IfOk result (λ xs. All (λ (r : ℕ). r < 2) xs) }
+{
+    let mut registers = Registers::new(alloc);
+    registers.push(0)?;
+    Ok(registers)
+}
+
+fn aggs(alloc: Global) -> Result<EndAggs, OutOfMemory>
+    ensures { IfOk result (λ xs. All (IsAggregate 2) xs) }
+{
+    let mut aggs = EndAggs::new(alloc);
+    aggs.push(EndAgg {
+        name: AggName::CountAll,
+        register: None,
+    })?;
+    aggs.push(EndAgg {
+        name: AggName::BoolOr,
+        register: Some(0),
+    })?;
+    Ok(aggs)
+}
+
+fn all_ends(alloc: Global) -> Result<Ends, OutOfMemory>
+    ensures { IfOk result (λ e. AreEnds 2 2 (ends_view e)) }
+{
+    Ok(Ends {
+        keep: 0,
+        star: false,
+        grouped: false,
+        outs: outs(alloc)?,
+        sorts: first_value(alloc)?,
+        groups: first_value(alloc)?,
+        aggs: aggs(alloc)?,
+    })
+}
+
+// Lines that no query has today: a second mask of all rows, a negative number, and each end.
+#[test]
+fn all_ends_are_listed(rt: HostRuntime) -> Result<(), Fail> {
+    let alloc = rt.alloc();
+    let ends = all_ends(alloc)?;
+    let text = listing(alloc, &program(alloc)?.finish(ends))?;
+    let wanted =
+        "m0 = all\nr0 = root m0\nm1 = all\nr1 = const m0 -5\nkeep m0\nout \"a\"\"b\" r0\nsort r0\ngroup r0\nagg countall\nagg boolor r0\n";
+    assert_eq!(rt; text.as_slice(), wanted.as_bytes());
+    Ok(())
+}

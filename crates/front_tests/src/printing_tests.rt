@@ -1,0 +1,152 @@
+use crate::long_texts::{Parts, spell};
+use crate::printed::printed;
+use snel_values::{Bytes, Value};
+use sql_print::{put_literal, put_name, put_string};
+use std::alloc::Global;
+use std::test::Fail;
+
+// Whether the query of a text is printed so.
+fn prints(alloc: Global, text: &str, wanted: &str) -> bool {
+    match printed(alloc, text) {
+        Some(made) => made.as_slice() == wanted.as_bytes(),
+        None => false,
+    }
+}
+
+// Expressions, and how they are printed in a query over t.
+const EXPRESSIONS: [(&str, &str); 61] = [
+    ("null", "NULL"),
+    ("missing", "MISSING"),
+    ("true", "TRUE"),
+    ("false", "FALSE"),
+    ("0", "0"),
+    ("9223372036854775807", "9223372036854775807"),
+    ("''", "''"),
+    ("'it''s'", "'it''s'"),
+    ("'''\"é`\n'''''", "'''\"é`\n'''''"),
+    ("`0001-01-01 00:00:00z`", "`0001-01-01T00:00:00Z`"),
+    ("`2024-02-29t01:00:00.0000079+01:00`", "`2024-02-29T00:00:00.000007Z`"),
+    ("a+1", "(\"t\".\"a\" + 1)"),
+    ("a-1", "(\"t\".\"a\" - 1)"),
+    ("a*1", "(\"t\".\"a\" * 1)"),
+    ("a/1", "(\"t\".\"a\" / 1)"),
+    ("a%1", "(\"t\".\"a\" % 1)"),
+    ("a=1", "(\"t\".\"a\" = 1)"),
+    ("a!=1", "(\"t\".\"a\" <> 1)"),
+    ("a<1", "(\"t\".\"a\" < 1)"),
+    ("a<=1", "(\"t\".\"a\" <= 1)"),
+    ("a>1", "(\"t\".\"a\" > 1)"),
+    ("a>=1", "(\"t\".\"a\" >= 1)"),
+    ("a and 1", "(\"t\".\"a\" AND 1)"),
+    ("a or 1", "(\"t\".\"a\" OR 1)"),
+    ("-a", "(-\"t\".\"a\")"),
+    ("not a", "(NOT \"t\".\"a\")"),
+    ("a is null", "(\"t\".\"a\" IS NULL)"),
+    ("a is missing", "(\"t\".\"a\" IS MISSING)"),
+    ("a is true", "(\"t\".\"a\" IS TRUE)"),
+    ("a is false", "(\"t\".\"a\" IS FALSE)"),
+    ("cast(a as integer)", "CAST(\"t\".\"a\" AS INTEGER)"),
+    ("cast(a as boolean)", "CAST(\"t\".\"a\" AS BOOLEAN)"),
+    ("date_trunc(month, a)", "DATE_TRUNC(MONTH, \"t\".\"a\")"),
+    ("extract(year from a)", "EXTRACT(YEAR FROM \"t\".\"a\")"),
+    ("count(*)", "COUNT(*)"),
+    ("a like 'x%'''", "(\"t\".\"a\" LIKE 'x%''')"),
+    ("a ilike 'x%'''", "(\"t\".\"a\" ILIKE 'x%''')"),
+    ("starts_with(a, 'x%''')", "STARTS_WITH(\"t\".\"a\", 'x%''')"),
+    ("ends_with(a, 'x%''')", "ENDS_WITH(\"t\".\"a\", 'x%''')"),
+    ("contains(a, 'x%''')", "CONTAINS(\"t\".\"a\", 'x%''')"),
+    ("count(a)", "COUNT(\"t\".\"a\")"),
+    ("sum(a)", "SUM(\"t\".\"a\")"),
+    ("min(a)", "MIN(\"t\".\"a\")"),
+    ("max(a)", "MAX(\"t\".\"a\")"),
+    ("avg(a)", "AVG(\"t\".\"a\")"),
+    ("earliest(a)", "EARLIEST(\"t\".\"a\")"),
+    ("latest(a)", "LATEST(\"t\".\"a\")"),
+    ("bool_and(a)", "BOOL_AND(\"t\".\"a\")"),
+    ("bool_or(a)", "BOOL_OR(\"t\".\"a\")"),
+    ("t.a[3].\"b\"\"c\"", "\"t\".\"a\"[3].\"b\"\"c\""),
+    ("a in (a, 1, 2)", "(\"t\".\"a\" IN (\"t\".\"a\", 1, 2))"),
+    ("coalesce(a, 1, 2)", "COALESCE(\"t\".\"a\", 1, 2)"),
+    ("char_length(a)", "CHAR_LENGTH(\"t\".\"a\")"),
+    ("to_unix_epoch(a)", "TO_UNIX_EPOCH(\"t\".\"a\")"),
+    ("to_unix_micro(a)", "TO_UNIX_MICRO(\"t\".\"a\")"),
+    ("nullif(a, 1)", "NULLIF(\"t\".\"a\", 1)"),
+    (
+        "a between 1 and (a = 2)",
+        "(\"t\".\"a\" BETWEEN 1 AND (\"t\".\"a\" = 2))",
+    ),
+    ("date_add(day, -1, a)", "DATE_ADD(DAY, (-1), \"t\".\"a\")"),
+    (
+        "case when a = 1 then 1 when a = 2 then 2 else a end",
+        "(CASE WHEN (\"t\".\"a\" = 1) THEN 1 WHEN (\"t\".\"a\" = 2) THEN 2 ELSE \"t\".\"a\" END)",
+    ),
+    (
+        "case when a then 1 end",
+        "(CASE WHEN \"t\".\"a\" THEN 1 ELSE NULL END)",
+    ),
+    ("a - 1 - 2", "((\"t\".\"a\" - 1) - 2)"),
+];
+
+#[test]
+fn expressions_are_printed_in_one_way(rt: HostRuntime) -> Result<(), Fail> {
+    let alloc = rt.alloc();
+    for (expression, wanted) in EXPRESSIONS {
+        let text = format!(in alloc; "select * from t where {expression}")?;
+        let wanted = format!(in alloc; "SELECT * FROM \"t\" WHERE {wanted}")?;
+        assert!(rt; prints(alloc, text.as_str(), wanted.as_str()), "{text}");
+        assert!(rt; prints(alloc, wanted.as_str(), wanted.as_str()), "{text}");
+    }
+    Ok(())
+}
+
+// Queries, and how they are printed.
+const QUERIES: [(&str, &str); 2] = [
+    (
+        "select a from t where not a=1",
+        "SELECT \"t\".\"a\" FROM \"t\" WHERE (NOT (\"t\".\"a\" = 1))",
+    ),
+    (
+        "SELECT a x, count(*) FROM logs t WHERE a GROUP BY t.a, 1 HAVING NOT a ORDER BY a ASC, 1 DESC LIMIT 5 OFFSET 2",
+        "SELECT \"t\".\"a\" AS \"x\", COUNT(*) FROM \"logs\" AS \"t\" WHERE \"t\".\"a\" GROUP BY \"t\".\"a\", 1 HAVING (NOT \"t\".\"a\") ORDER BY \"t\".\"a\", 1 DESC LIMIT 5 OFFSET 2",
+    ),
+];
+
+#[test]
+fn printed_queries_are_read_and_printed_again(rt: HostRuntime) {
+    for (text, wanted) in QUERIES {
+        assert!(rt; prints(rt.alloc(), text, wanted), "{text}");
+        assert!(rt; prints(rt.alloc(), wanted, wanted), "{text}");
+    }
+}
+
+// Chains of 2,000 levels, which fit the stack.
+const CHAINS: [(Parts, Parts); 2] = [
+    (
+        ["SELECT * FROM t WHERE ", "NOT ", "a", "", ""],
+        ["SELECT * FROM \"t\" WHERE ", "(NOT ", "\"t\".\"a\"", ")", ""],
+    ),
+    (
+        ["SELECT * FROM t WHERE ", "- ", "a", "", ""],
+        ["SELECT * FROM \"t\" WHERE ", "(-", "\"t\".\"a\"", ")", ""],
+    ),
+];
+
+#[test]
+fn deep_trees_fit_the_stack(rt: HostRuntime) -> Result<(), Fail> {
+    for (parts, wanted) in CHAINS {
+        let text = spell(rt.alloc(), parts, 2_000)?;
+        let wanted = spell(rt.alloc(), wanted, 2_000)?;
+        assert!(rt; prints(rt.alloc(), text.as_str(), wanted.as_str()));
+    }
+    Ok(())
+}
+
+#[test]
+fn names_strings_and_literals_are_printed(rt: HostRuntime) -> Result<(), Fail> {
+    let mut text = Bytes::new(rt.alloc());
+    put_name(&mut text, "a\"'")?;
+    put_string(&mut text, "a\"'")?;
+    put_literal(&mut text, &Value::Int(7))?;
+    assert_eq!(rt; text.as_slice(), b"\"a\"\"'\"'a\"'''7".as_slice());
+    Ok(())
+}
