@@ -9,8 +9,6 @@ mod logic;
 mod matching;
 mod numbers;
 mod paths;
-#[cfg(test)]
-mod tests;
 mod times;
 
 pub use evaluating::eval_row;

@@ -62,12 +62,7 @@ fn has_value(alloc: Global, expression: &str, row: &Value, wanted: &str) -> bool
 }
 
 // Adds a pair, where its name stands above the last.
-fn put(
-    alloc: Global,
-    pairs: &mut Pairs,
-    name: &str,
-    value: Value,
-) -> Result<(), OutOfMemory> {
+fn put(alloc: Global, pairs: &mut Pairs, name: &str, value: Value) -> Result<(), OutOfMemory> {
     let name = Text::of(alloc, name)?;
     if pairs.is_above_last(name.as_str()) {
         pairs.push(name, value)?;
@@ -108,10 +103,7 @@ const ON_ROWS: [(&str, [&str; 4]); 9] = [
         "a IS NULL OR a IS MISSING",
         ["FALSE", "TRUE", "TRUE", "FALSE"],
     ),
-    (
-        "CAST(b AS INTEGER)",
-        ["MISSING", "MISSING", "7", "MISSING"],
-    ),
+    ("CAST(b AS INTEGER)", ["MISSING", "MISSING", "7", "MISSING"]),
     ("b + 1", ["MISSING", "MISSING", "8", "MISSING"]),
     (
         "CASE WHEN a = 1 THEN 10 WHEN a IS NOT MISSING THEN 20 END",
@@ -128,7 +120,10 @@ fn expressions_have_their_values_on_rows(rt: HostRuntime) -> Result<(), Fail> {
     for at in 0..4usize {
         let row = row(rt.alloc(), at)?;
         for (expression, values) in ON_ROWS {
-            assert!(rt; has_value(rt.alloc(), expression, &row, values[at]), "{expression}");
+            assert!(rt;
+                has_value(rt.alloc(), expression, &row, values[at]),
+                "{expression}"
+            );
         }
     }
     Ok(())
@@ -161,17 +156,41 @@ const VALUES: [(&str, &str); 40] = [
     ("STARTS_WITH('abc', 'ab')", "TRUE"),
     ("ENDS_WITH('abc', 'ab')", "FALSE"),
     ("CHAR_LENGTH('aé')", "2"),
-    ("DATE_TRUNC(WEEK, `2024-02-29T23:59:59.999999Z`)", "time 1708905600000000"),
-    ("DATE_TRUNC(MONTH, `2024-02-29T23:59:59.999999Z`)", "time 1706745600000000"),
-    ("DATE_TRUNC(QUARTER, `2024-02-29T23:59:59.999999Z`)", "time 1704067200000000"),
-    ("DATE_TRUNC(YEAR, `2024-02-29T23:59:59.999999Z`)", "time 1704067200000000"),
-    ("DATE_TRUNC(HOUR, `2024-02-29T23:59:59.999999Z`)", "time 1709247600000000"),
-    ("DATE_TRUNC(DAY, `1969-12-31T23:59:59.999999Z`)", "time -86400000000"),
-    ("EXTRACT(MICROSECOND FROM `2024-02-29T23:59:59.999999Z`)", "999999"),
+    (
+        "DATE_TRUNC(WEEK, `2024-02-29T23:59:59.999999Z`)",
+        "time 1708905600000000",
+    ),
+    (
+        "DATE_TRUNC(MONTH, `2024-02-29T23:59:59.999999Z`)",
+        "time 1706745600000000",
+    ),
+    (
+        "DATE_TRUNC(QUARTER, `2024-02-29T23:59:59.999999Z`)",
+        "time 1704067200000000",
+    ),
+    (
+        "DATE_TRUNC(YEAR, `2024-02-29T23:59:59.999999Z`)",
+        "time 1704067200000000",
+    ),
+    (
+        "DATE_TRUNC(HOUR, `2024-02-29T23:59:59.999999Z`)",
+        "time 1709247600000000",
+    ),
+    (
+        "DATE_TRUNC(DAY, `1969-12-31T23:59:59.999999Z`)",
+        "time -86400000000",
+    ),
+    (
+        "EXTRACT(MICROSECOND FROM `2024-02-29T23:59:59.999999Z`)",
+        "999999",
+    ),
     ("EXTRACT(DAY FROM `2024-02-29T23:59:59.999999Z`)", "29"),
     ("EXTRACT(QUARTER FROM `2024-02-29T23:59:59.999999Z`)", "1"),
     ("TO_UNIX_EPOCH(`2024-02-29T23:59:59.999999Z`)", "1709251199"),
-    ("DATE_ADD(DAY, 1, `2024-02-29T23:59:59.999999Z`)", "time 1709337599999999"),
+    (
+        "DATE_ADD(DAY, 1, `2024-02-29T23:59:59.999999Z`)",
+        "time 1709337599999999",
+    ),
     ("`2024-02-29T23:59:59.999999Z`", "time 1709251199999999"),
     ("`1969-12-31T23:59:59.999999Z`", "time -1"),
     ("`0001-01-01T00:00:00Z`", "time -62135596800000000"),
@@ -181,6 +200,9 @@ const VALUES: [(&str, &str); 40] = [
 #[test]
 fn expressions_without_paths_have_their_values(rt: HostRuntime) {
     for (expression, wanted) in VALUES {
-        assert!(rt; has_value(rt.alloc(), expression, &Value::Null, wanted), "{expression}");
+        assert!(rt;
+            has_value(rt.alloc(), expression, &Value::Null, wanted),
+            "{expression}"
+        );
     }
 }

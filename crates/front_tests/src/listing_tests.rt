@@ -154,7 +154,11 @@ fn queries_have_their_listings(rt: HostRuntime) -> Result<(), Fail> {
 
 #[test]
 fn a_deep_expression_has_its_listing(rt: HostRuntime) -> Result<(), Fail> {
-    let text = spell(rt.alloc(), ["SELECT * FROM t WHERE ", "NOT ", "a", "", ""], 2_000)?;
+    let text = spell(
+        rt.alloc(),
+        ["SELECT * FROM t WHERE ", "NOT ", "a", "", ""],
+        2_000,
+    )?;
     let Some(made) = text_listing(rt.alloc(), text.as_str()) else {
         return Err("no listing".into())
     };

@@ -39,7 +39,10 @@ const TEXTS: [(&str, &str); 18] = [
 #[test]
 fn texts_are_queries_or_say_why_not(rt: HostRuntime) {
     for (text, reason) in TEXTS {
-        assert!(rt; why_unread(rt.alloc(), text).is(rt.alloc(), reason), "{text}");
+        assert!(rt;
+            why_unread(rt.alloc(), text).is(rt.alloc(), reason),
+            "{text}"
+        );
     }
 }
 
@@ -87,7 +90,10 @@ const LONG_TEXTS: [(Parts, u32, &str); 10] = [
 fn long_texts_are_queries_or_say_why_not(rt: HostRuntime) -> Result<(), Fail> {
     for (parts, times, reason) in LONG_TEXTS {
         let text = spell(rt.alloc(), parts, times)?;
-        assert!(rt; why_unread(rt.alloc(), text.as_str()).is(rt.alloc(), reason), "{reason}");
+        assert!(rt;
+            why_unread(rt.alloc(), text.as_str()).is(rt.alloc(), reason),
+            "{reason}"
+        );
     }
     Ok(())
 }

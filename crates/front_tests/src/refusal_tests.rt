@@ -10,24 +10,60 @@ const TEXTS: [(&str, &str); 28] = [
     ("SELECT 1.5 FROM logs", "bad token at byte 8"),
     ("SELECT * FROM a JOIN b", "refused word at byte 16"),
     ("SELECT FROM t", "not a query"),
-    ("SELECT SUM(COUNT(*)) FROM t", "output 1 has a misplaced aggregate"),
-    ("SELECT a, b FROM logs WHERE SUM(a)", "WHERE has a misplaced aggregate"),
-    ("SELECT a FROM t WHERE SUM(a) > 1", "WHERE has a misplaced aggregate"),
-    ("SELECT a FROM t GROUP BY a, MAX(a)", "group key 2 has a misplaced aggregate"),
-    ("SELECT 1 FROM t HAVING MIN(MIN(a)) = 1", "HAVING has a misplaced aggregate"),
-    ("SELECT 1 FROM t ORDER BY 1, AVG(AVG(a))", "order key 2 has a misplaced aggregate"),
+    (
+        "SELECT SUM(COUNT(*)) FROM t",
+        "output 1 has a misplaced aggregate",
+    ),
+    (
+        "SELECT a, b FROM logs WHERE SUM(a)",
+        "WHERE has a misplaced aggregate",
+    ),
+    (
+        "SELECT a FROM t WHERE SUM(a) > 1",
+        "WHERE has a misplaced aggregate",
+    ),
+    (
+        "SELECT a FROM t GROUP BY a, MAX(a)",
+        "group key 2 has a misplaced aggregate",
+    ),
+    (
+        "SELECT 1 FROM t HAVING MIN(MIN(a)) = 1",
+        "HAVING has a misplaced aggregate",
+    ),
+    (
+        "SELECT 1 FROM t ORDER BY 1, AVG(AVG(a))",
+        "order key 2 has a misplaced aggregate",
+    ),
     ("SELECT a, SUM(a) FROM logs", "output 1 is not grouped"),
     ("SELECT a, COUNT(*) FROM logs", "output 1 is not grouped"),
     ("SELECT * FROM t GROUP BY a", "output 1 is not grouped"),
     ("SELECT a, b FROM t GROUP BY a", "output 2 is not grouped"),
     ("SELECT COUNT(*) FROM t HAVING a", "HAVING is not grouped"),
-    ("SELECT COUNT(*) FROM t ORDER BY a", "order key 1 is not grouped"),
-    ("SELECT CAST(COUNT(*) AS BOOLEAN) FROM t", "output 1 is not allowed over groups"),
-    ("SELECT 1 FROM t HAVING MAX(a) LIKE 'x'", "HAVING is not allowed over groups"),
-    ("SELECT COUNT(*) FROM t ORDER BY EXTRACT(DAY FROM MAX(a))", "order key 1 is not allowed over groups"),
+    (
+        "SELECT COUNT(*) FROM t ORDER BY a",
+        "order key 1 is not grouped",
+    ),
+    (
+        "SELECT CAST(COUNT(*) AS BOOLEAN) FROM t",
+        "output 1 is not allowed over groups",
+    ),
+    (
+        "SELECT 1 FROM t HAVING MAX(a) LIKE 'x'",
+        "HAVING is not allowed over groups",
+    ),
+    (
+        "SELECT COUNT(*) FROM t ORDER BY EXTRACT(DAY FROM MAX(a))",
+        "order key 1 is not allowed over groups",
+    ),
     ("SELECT a, a FROM logs", "output 2 has an earlier name"),
-    ("SELECT a AS x, b AS x FROM t", "output 2 has an earlier name"),
-    ("SELECT a, b FROM logs ORDER BY 3", "order key 1 has no output"),
+    (
+        "SELECT a AS x, b AS x FROM t",
+        "output 2 has an earlier name",
+    ),
+    (
+        "SELECT a, b FROM logs ORDER BY 3",
+        "order key 1 has no output",
+    ),
     ("SELECT a FROM t ORDER BY 2", "order key 1 has no output"),
     ("SELECT * FROM t ORDER BY a, 1", "order key 2 has no output"),
     ("SELECT a + 1 FROM t", "not built yet"),
@@ -40,12 +76,16 @@ const TEXTS: [(&str, &str); 28] = [
 #[test]
 fn texts_are_answered_or_say_why_not(rt: HostRuntime) {
     for (text, reason) in TEXTS {
-        assert!(rt; why_refused(rt.alloc(), text).is(rt.alloc(), reason), "{text}");
+        assert!(rt;
+            why_refused(rt.alloc(), text).is(rt.alloc(), reason),
+            "{text}"
+        );
     }
 }
 
 // 64 aggregates.
-const SUMS: &str = "SUM(1), SUM(2), SUM(3), SUM(4), SUM(5), SUM(6), SUM(7), SUM(8), SUM(9), SUM(10), SUM(11), SUM(12), SUM(13), \
+const SUMS: &str =
+    "SUM(1), SUM(2), SUM(3), SUM(4), SUM(5), SUM(6), SUM(7), SUM(8), SUM(9), SUM(10), SUM(11), SUM(12), SUM(13), \
     SUM(14), SUM(15), SUM(16), SUM(17), SUM(18), SUM(19), SUM(20), SUM(21), SUM(22), SUM(23), SUM(24), SUM(25), \
     SUM(26), SUM(27), SUM(28), SUM(29), SUM(30), SUM(31), SUM(32), SUM(33), SUM(34), SUM(35), SUM(36), SUM(37), \
     SUM(38), SUM(39), SUM(40), SUM(41), SUM(42), SUM(43), SUM(44), SUM(45), SUM(46), SUM(47), SUM(48), SUM(49), \
@@ -55,25 +95,60 @@ const SUMS: &str = "SUM(1), SUM(2), SUM(3), SUM(4), SUM(5), SUM(6), SUM(7), SUM(
 // The same of long texts: at each limit and past it.
 const LONG_TEXTS: [(Parts, u32, &str); 13] = [
     (["SELECT a FROM t ", " ", "", "", ""], 65_521, "too long"),
-    (["SELECT a FROM t WHERE ", "NOT ", "b", "", ""], 2_043, "too many tokens"),
-    (["SELECT ", "(", "a", ")", " FROM t"], 65, "nested too deep at byte 71"),
+    (
+        ["SELECT a FROM t WHERE ", "NOT ", "b", "", ""],
+        2_043,
+        "too many tokens",
+    ),
+    (
+        ["SELECT ", "(", "a", ")", " FROM t"],
+        65,
+        "nested too deep at byte 71",
+    ),
     (["SELECT 1", ", 1", "", "", " FROM t"], 255, ""),
-    (["SELECT 1", ", 1", "", "", " FROM t"], 256, "too many outputs"),
-    (["SELECT a, b FROM logs GROUP BY a", ",a", "", "", ""], 15, "output 2 is not grouped"),
-    (["SELECT a, b FROM logs GROUP BY a", ",a", "", "", ""], 16, "too many group keys"),
-    (["SELECT a FROM t ORDER BY a", ", a", "", "", ""], 15, "not built yet"),
-    (["SELECT a FROM t ORDER BY a", ", a", "", "", ""], 16, "too many order keys"),
+    (
+        ["SELECT 1", ", 1", "", "", " FROM t"],
+        256,
+        "too many outputs",
+    ),
+    (
+        ["SELECT a, b FROM logs GROUP BY a", ",a", "", "", ""],
+        15,
+        "output 2 is not grouped",
+    ),
+    (
+        ["SELECT a, b FROM logs GROUP BY a", ",a", "", "", ""],
+        16,
+        "too many group keys",
+    ),
+    (
+        ["SELECT a FROM t ORDER BY a", ", a", "", "", ""],
+        15,
+        "not built yet",
+    ),
+    (
+        ["SELECT a FROM t ORDER BY a", ", a", "", "", ""],
+        16,
+        "too many order keys",
+    ),
     (["SELECT a", ".a", "", "", " FROM t"], 15, ""),
     (["SELECT a", ".a", "", "", " FROM t"], 16, "too many steps"),
     (["SELECT ", SUMS, "", "", " FROM t"], 1, "not built yet"),
-    (["SELECT ", SUMS, ", SUM(0)", "", " FROM t"], 1, "too many aggregates"),
+    (
+        ["SELECT ", SUMS, ", SUM(0)", "", " FROM t"],
+        1,
+        "too many aggregates",
+    ),
 ];
 
 #[test]
 fn long_texts_are_answered_or_say_why_not(rt: HostRuntime) -> Result<(), Fail> {
     for (parts, times, reason) in LONG_TEXTS {
         let text = spell(rt.alloc(), parts, times)?;
-        assert!(rt; why_refused(rt.alloc(), text.as_str()).is(rt.alloc(), reason), "{reason}");
+        assert!(rt;
+            why_refused(rt.alloc(), text.as_str()).is(rt.alloc(), reason),
+            "{reason}"
+        );
     }
     Ok(())
 }
@@ -102,7 +177,12 @@ fn has_names(checked: &Checked, names: &[&str]) -> bool {
 const ACCEPTED: [(&str, bool, usize, &[&str]); 4] = [
     ("SELECT SUM(a), SUM(a) FROM logs", true, 1, &["_1", "_2"]),
     ("SELECT 1, 1 FROM logs HAVING TRUE", true, 0, &["_1", "_2"]),
-    ("SELECT a, b.c, a[0], a AS x FROM t", false, 0, &["a", "c", "_3", "x"]),
+    (
+        "SELECT a, b.c, a[0], a AS x FROM t",
+        false,
+        0,
+        &["a", "c", "_3", "x"],
+    ),
     ("SELECT * FROM t", false, 0, &[]),
 ];
 

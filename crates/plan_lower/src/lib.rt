@@ -12,10 +12,3 @@ mod pieces;
 pub use forms::is_lowered;
 pub use job_text::listing;
 pub use lowering::lower;
-
-#[cfg(test)]
-mod listing_tests;
-#[cfg(test)]
-mod made;
-#[cfg(test)]
-mod tests;

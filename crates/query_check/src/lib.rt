@@ -19,6 +19,3 @@ pub use equal::{is_among, same_expr};
 pub use fault::{CheckFault, Limit, Place};
 pub use names::Names;
 pub use verdict::{Checked, check};
-
-#[cfg(test)]
-mod tests;

@@ -3,8 +3,6 @@
 
 mod ask;
 #[cfg(test)]
-mod form_tests;
-#[cfg(test)]
 mod grid_tests;
 #[cfg(test)]
 mod query_tests;

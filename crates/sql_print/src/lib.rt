@@ -15,12 +15,3 @@ mod words;
 pub use literals::put_literal;
 pub use query::print;
 pub use quotes::{put_name, put_string};
-
-#[cfg(test)]
-mod form_tests;
-#[cfg(test)]
-mod made;
-#[cfg(test)]
-mod query_tests;
-#[cfg(test)]
-mod tests;

@@ -31,8 +31,3 @@ mod wraps;
 
 pub use reading::read;
 pub use sql_fault::SqlFault;
-
-#[cfg(test)]
-mod fault_tests;
-#[cfg(test)]
-mod tests;

@@ -1,6 +1,0 @@
-use Rattle.query_meaning.specs.WellFormed.{IsFormed}
-use Rattle.sql_tree.specs.View.{view}
-use Rattle.sql_print.proofs.tests.deep.Given as goal
-
-abbrev pub invariant-loop : goal.invariant-loop
-invariant-loop l = IsFormed (view l.expr)
