@@ -3,7 +3,7 @@ use Rattle.std.proofs.Common.{◌≡◌, ℕ, ◌+◌, Bool, true, false, cond, 
 use Rattle.std.specs.Prelude.{slice_get, if◌then◌else◌}
 use Rattle.std.specs.List.{filter, enumerate_from}
 use Rattle.value_meaning.specs.Val.{Val}
-use Rattle.query_meaning.specs.Tree.{Ex, Outs, star, named, Query}
+use Rattle.tree_meaning.specs.Tree.{Ex, Outs, star, named, Query}
 use Rattle.check_meaning.specs.Names.{names, output_name}
 use Rattle.check_meaning.specs.Places.{output_exs}
 use Rattle.check_meaning.specs.Aggregates.{is_grouped}

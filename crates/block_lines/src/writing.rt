@@ -3,7 +3,7 @@
 ghost use Rattle.std.specs.Prelude.{◌≡◌, ◌<◌, ◌≤◌, ◌+◌, ◌/◌, ℕ, [], false, map, length, take, OnOk, OnErr, IfOk, IsErr, IsErrOf};
 ghost use Rattle.std.specs.Io.KnownBytes.{Appends};
 ghost use Rattle.snel_device.specs.Causes.{HasCause};
-ghost use Rattle.query_meaning.specs.Tree.{Query};
+ghost use Rattle.tree_meaning.specs.Tree.{Query};
 ghost use Rattle.check_meaning.specs.Aggregates.{is_grouped};
 ghost use Rattle.eval_meaning.specs.Passed.{passed};
 ghost use Rattle.answer_meaning.specs.Lines.{print};

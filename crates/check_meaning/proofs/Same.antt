@@ -2,8 +2,8 @@
 use Rattle.std.proofs.Common.{◌≡◌, ℕ, Bool, true, false, ◌&&◌, nat_eq, refl, ap, arith}
 use Rattle.std.proofs.lemmas.Bool.Decides.{nat_tests}
 use base.Stored.{Gv, gnil, gnum, gcons}
-use Rattle.query_meaning.specs.Tree.{Ex}
-use Rattle.query_meaning.specs.Code.{code_ex, ex_inj}
+use Rattle.tree_meaning.specs.Tree.{Ex}
+use Rattle.tree_meaning.specs.Code.{code_ex, ex_inj}
 use Rattle.check_meaning.specs.Same.{same_code, same_ex}
 
 both_left : (a b : Bool) → (a && b) ≡ true → a ≡ true

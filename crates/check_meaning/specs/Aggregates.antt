@@ -1,7 +1,7 @@
 -- The aggregates of a query, and whether it is grouped.
 use Rattle.std.specs.Prelude.{Bool, true, false, ◌||◌, ◌&&◌, List, [], ◌∷◌, ◌++◌, if◌then◌else◌, filter, fold, is_some, not, nat_lt, length}
 use Rattle.std.specs.List.{list_any, flat_map}
-use Rattle.query_meaning.specs.Tree.{Ex, agg_of_rows, agg, Query}
+use Rattle.tree_meaning.specs.Tree.{Ex, agg_of_rows, agg, Query}
 use Rattle.check_meaning.specs.Same.{same_ex}
 use Rattle.check_meaning.specs.Parts.{parts}
 use Rattle.check_meaning.specs.Place.{Place, is_of_rows}

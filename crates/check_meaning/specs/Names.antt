@@ -2,7 +2,7 @@
 use Rattle.std.specs.Prelude.{ℕ, List, [], ◌∷◌, ◌++◌, map, Option, None, Some, unwrap_or, codes}
 use Rattle.std.specs.Fmt.{decimal}
 use Rattle.std.specs.List.{enumerate_from}
-use Rattle.query_meaning.specs.Tree.{Step, name, at, Ex, path, Outs, star, named}
+use Rattle.tree_meaning.specs.Tree.{Step, name, at, Ex, path, Outs, star, named}
 
 -- the last name of a path that doesn't end in an index
 abbrev pub last_name : List Step → Option (List ℕ)

@@ -1,6 +1,6 @@
 -- The expressions that stand directly in an expression, in the order of the text.
 use Rattle.std.specs.Prelude.{List, [], ◌∷◌, ◌++◌}
-use Rattle.query_meaning.specs.Tree.{Ex, Arms, lit, path, neg, no, bin, is, member, between, matching, choice, cast, call, trunc, extract, shift, agg_of_rows, agg, no_arms, arm, items}
+use Rattle.tree_meaning.specs.Tree.{Ex, Arms, lit, path, neg, no, bin, is, member, between, matching, choice, cast, call, trunc, extract, shift, agg_of_rows, agg, no_arms, arm, items}
 
 abbrev pub arm_operands : Arms → List Ex
 arm_operands no_arms = []

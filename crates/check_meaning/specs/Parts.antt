@@ -1,7 +1,7 @@
 -- The parts of an expression: itself and all that stands in it, at every depth, in the order of the text, an
 -- expression before what stands in it. Where a test holds of a part, neither that part nor what stands in it is listed.
 use Rattle.std.specs.Prelude.{Bool, false, List, [], ◌∷◌, ◌++◌, if◌then◌else◌}
-use Rattle.query_meaning.specs.Tree.{Ex, Exs, Arms, lit, path, neg, no, bin, is, member, between, matching, choice, cast, call, trunc, extract, shift, agg_of_rows, agg, no_exs, ex, no_arms, arm}
+use Rattle.tree_meaning.specs.Tree.{Ex, Exs, Arms, lit, path, neg, no, bin, is, member, between, matching, choice, cast, call, trunc, extract, shift, agg_of_rows, agg, no_exs, ex, no_arms, arm}
 
 -- the expression and what is listed of what stands in it, or nothing where the test holds
 abbrev pub unless : (Ex → Bool) → Ex → List Ex → List Ex

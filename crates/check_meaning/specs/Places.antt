@@ -4,7 +4,7 @@ use Rattle.std.specs.Option.{option_and_then, option_or}
 use Rattle.std.specs.Str.{bytes_eq}
 use Rattle.std.specs.List.{position_from, enumerate_from}
 use Rattle.value_meaning.specs.Val.{int}
-use Rattle.query_meaning.specs.Tree.{name, Ex, lit, path, Outs, Query}
+use Rattle.tree_meaning.specs.Tree.{name, Ex, lit, path, Outs, Query}
 use Rattle.check_meaning.specs.Names.{names, items_of}
 use Rattle.check_meaning.specs.Place.{Place, output, where_test, group_key, having, order_key}
 

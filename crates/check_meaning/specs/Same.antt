@@ -1,8 +1,8 @@
 -- Whether two trees are equal. Trees are told apart by their codes: a tree has one code, and no other tree has it.
 use Rattle.std.specs.Prelude.{Bool, true, false, ◌&&◌, nat_eq}
 use base.Stored.{Gv, gnil, gnum, gcons}
-use Rattle.query_meaning.specs.Tree.{Ex}
-use Rattle.query_meaning.specs.Code.{code_ex}
+use Rattle.tree_meaning.specs.Tree.{Ex}
+use Rattle.tree_meaning.specs.Code.{code_ex}
 
 abbrev pub same_code : Gv → Gv → Bool
 same_code gnil gnil = true

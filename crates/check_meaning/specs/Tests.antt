@@ -1,9 +1,9 @@
 -- What is wrong at one place of a query.
 use Rattle.std.specs.Prelude.{Bool, true, false, ◌||◌, ◌&&◌, List, length, nat_lt, not, if◌then◌else◌}
 use Rattle.std.specs.List.{list_any}
-use Rattle.query_meaning.specs.Func as func
-use Rattle.query_meaning.specs.Func.{Func}
-use Rattle.query_meaning.specs.Tree.{Ex, path, matching, cast, call, trunc, extract, shift, agg}
+use Rattle.tree_meaning.specs.declared.Func.TheVariants as func
+use Rattle.tree_meaning.specs.declared.Func.{Func}
+use Rattle.tree_meaning.specs.Tree.{Ex, path, matching, cast, call, trunc, extract, shift, agg}
 use Rattle.check_meaning.specs.Limit.{most, steps}
 use Rattle.check_meaning.specs.Parts.{parts, parts_outside}
 use Rattle.check_meaning.specs.Place.{Place, is_of_rows}
@@ -25,11 +25,11 @@ is_doubled e = false
 
 -- a function of times, or of a text's length
 abbrev pub is_row_function : Func → Bool
-is_row_function func.coalesce = false
-is_row_function func.null_if = false
-is_row_function func.char_length = true
-is_row_function func.unix_epoch = true
-is_row_function func.unix_micro = true
+is_row_function func.Coalesce = false
+is_row_function func.NullIf = false
+is_row_function func.CharLength = true
+is_row_function func.UnixEpoch = true
+is_row_function func.UnixMicro = true
 
 -- a cast, a matching, or a function of times or of a text's length: these aren't computed over groups
 abbrev pub is_row_form : Ex → Bool

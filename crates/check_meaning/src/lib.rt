@@ -4,7 +4,7 @@
 
 ghost use Rattle.std.specs.Prelude.{◌≡◌, ◌↔◌, IsTrue, Bool};
 ghost use Rattle.std.specs.List.{flat_map};
-ghost use Rattle.query_meaning.specs.Tree.{Ex};
+ghost use Rattle.tree_meaning.specs.Tree.{Ex};
 ghost use Rattle.check_meaning.specs.Same.{same_ex};
 ghost use Rattle.check_meaning.specs.Operands.{operands};
 ghost use Rattle.check_meaning.specs.Parts.{unless, parts_outside};

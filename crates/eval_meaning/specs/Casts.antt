@@ -2,9 +2,9 @@
 use Rattle.std.specs.Prelude.{ℕ, pos, neg_ℤ, unsigned_abs, List, [], ◌∷◌, length, codes, Bool, true, false, not, ◌&&◌, ◌==◌, nat_le, if◌then◌else◌}
 use Rattle.std.specs.Str.{bytes_eq, all_ascii_digits}
 use Rattle.value_meaning.specs.Val.{Val, missing, truth, int, text}
-use Rattle.query_meaning.specs.CastTo.{CastTo}
-use Rattle.query_meaning.specs.CastTo as to
-use Rattle.query_meaning.specs.Lexing.{decimal_on}
+use Rattle.tree_meaning.specs.declared.CastTo.{CastTo}
+use Rattle.tree_meaning.specs.declared.CastTo.TheVariants as to
+use Rattle.tree_meaning.specs.Decimals.{decimal_on}
 use Rattle.eval_meaning.specs.Operands.{of_one}
 use Rattle.eval_meaning.specs.Numbers.{fitted}
 
@@ -44,5 +44,5 @@ to_boolean (text s) = spelled_truth s
 to_boolean v = missing
 
 abbrev pub cast_of : CastTo → Val → Val
-cast_of to.integer = of_one to_integer
-cast_of to.boolean = of_one to_boolean
+cast_of to.Integer = of_one to_integer
+cast_of to.Boolean = of_one to_boolean

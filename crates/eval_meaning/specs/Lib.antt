@@ -7,6 +7,7 @@ pub mod Casts
 pub mod Matching
 pub mod Times
 pub mod Paths
+pub mod Pair
 pub mod Evaluation
 pub mod Passed
 pub mod Starts

@@ -1,8 +1,8 @@
 -- The logic of three values and MISSING: AND, OR, NOT, IS, COALESCE and the choice of CASE, as functions of values.
 use Rattle.std.specs.Prelude.{Bool, true, false, List, [], ◌∷◌, not, if◌then◌else◌}
 use Rattle.value_meaning.specs.Val.{Val, missing, null, truth, int, time, text, list, struct}
-use Rattle.query_meaning.specs.IsWhat.{IsWhat}
-use Rattle.query_meaning.specs.IsWhat as what
+use Rattle.tree_meaning.specs.declared.IsWhat.{IsWhat}
+use Rattle.tree_meaning.specs.declared.IsWhat.TheVariants as what
 
 -- What AND, OR and NOT read of a value: true, false, NULL, and any other, which is MISSING or of another kind.
 pub data Logic : Type 0 where
@@ -116,10 +116,10 @@ is_missing (struct fs) = false
 
 -- IS: true exactly of NULL, of MISSING, of true, of false; else false
 abbrev pub is_of : IsWhat → Val → Val
-is_of what.null v = truth (is_null v)
-is_of what.missing v = truth (is_missing v)
-is_of what.truth v = truth (is_true v)
-is_of what.falsehood v = truth (is_false v)
+is_of what.Null v = truth (is_null v)
+is_of what.Missing v = truth (is_missing v)
+is_of what.True v = truth (is_true v)
+is_of what.False v = truth (is_false v)
 
 -- COALESCE of two: the first if it is neither NULL nor MISSING, else the second, but NULL where that is MISSING and the first is NULL
 abbrev pub first_of : Val → Val → Val

@@ -4,8 +4,8 @@ use Rattle.std.specs.List.{starts_with, ends_with}
 use Rattle.std.specs.Str.{chars}
 use Rattle.std.specs.Char.{to_ascii_lowercase}
 use Rattle.value_meaning.specs.Val.{Val, truth, int}
-use Rattle.query_meaning.specs.How.{How}
-use Rattle.query_meaning.specs.How as how
+use Rattle.tree_meaning.specs.declared.How.{How}
+use Rattle.tree_meaning.specs.declared.How.TheVariants as how
 use Rattle.eval_meaning.specs.Operands.{of_one, on_text}
 
 -- A pattern and a text, as lists of characters, match: both are empty; or the pattern begins with `%` and its rest
@@ -43,11 +43,11 @@ stands_in part whole = some_suffix (λ suffix. starts_with nat_eq suffix part) w
 -- Whether a text matches: LIKE by its characters; ILIKE by them regardless of the case of A-Z; STARTS_WITH, ENDS_WITH
 -- and CONTAINS by its bytes.
 abbrev pub matches : How → List ℕ → List ℕ → Bool
-matches how.like pattern s = likes (chars pattern) (chars s)
-matches how.ilike pattern s = likes (map to_ascii_lowercase (chars pattern)) (map to_ascii_lowercase (chars s))
-matches how.starts part s = starts_with nat_eq s part
-matches how.ends part s = ends_with nat_eq s part
-matches how.contains part s = stands_in part s
+matches how.Like pattern s = likes (chars pattern) (chars s)
+matches how.ILike pattern s = likes (map to_ascii_lowercase (chars pattern)) (map to_ascii_lowercase (chars s))
+matches how.Starts part s = starts_with nat_eq s part
+matches how.Ends part s = ends_with nat_eq s part
+matches how.Contains part s = stands_in part s
 
 -- LIKE, ILIKE, STARTS_WITH, ENDS_WITH, CONTAINS
 abbrev pub matching_of : How → List ℕ → Val → Val

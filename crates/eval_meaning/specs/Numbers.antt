@@ -1,8 +1,8 @@
 -- Arithmetic on whole numbers, which are unbounded; a result outside the range of a row's numbers is MISSING.
 use Rattle.std.specs.Prelude.{ℤ, pos, neg_ℤ, ◌+ℤ◌, ◌-ℤ◌, ◌*ℤ◌, int_le, int_div, int_rem, unsigned_abs, Bool, ◌&&◌, ◌==◌, if◌then◌else◌}
 use Rattle.value_meaning.specs.Val.{Val, missing, int}
-use Rattle.query_meaning.specs.BinOp.{BinOp}
-use Rattle.query_meaning.specs.BinOp as op
+use Rattle.tree_meaning.specs.declared.BinOp.{BinOp}
+use Rattle.tree_meaning.specs.declared.BinOp.TheVariants as op
 use Rattle.eval_meaning.specs.Operands.{of_one, of_two, on_number, on_numbers}
 
 -- from -2^63 to 2^63 - 1
@@ -20,19 +20,19 @@ unless_by_zero y v = if unsigned_abs y == 0 then missing else v
 -- `+`, `-`, `*`; `/`, whose quotient is cut towards zero, and `%`, whose rest has the dividend's sign; the other
 -- operators are no arithmetic
 abbrev pub computed : BinOp → ℤ → ℤ → Val
-computed op.add x y = fitted (x +ℤ y)
-computed op.sub x y = fitted (x -ℤ y)
-computed op.mul x y = fitted (x *ℤ y)
-computed op.div x y = unless_by_zero y (fitted (int_div x y))
-computed op.rem x y = unless_by_zero y (fitted (int_rem x y))
-computed op.eq x y = missing
-computed op.ne x y = missing
-computed op.lt x y = missing
-computed op.le x y = missing
-computed op.gt x y = missing
-computed op.ge x y = missing
-computed op.both x y = missing
-computed op.either x y = missing
+computed op.Add x y = fitted (x +ℤ y)
+computed op.Sub x y = fitted (x -ℤ y)
+computed op.Mul x y = fitted (x *ℤ y)
+computed op.Div x y = unless_by_zero y (fitted (int_div x y))
+computed op.Rem x y = unless_by_zero y (fitted (int_rem x y))
+computed op.Eq x y = missing
+computed op.Ne x y = missing
+computed op.Lt x y = missing
+computed op.Le x y = missing
+computed op.Gt x y = missing
+computed op.Ge x y = missing
+computed op.And x y = missing
+computed op.Or x y = missing
 
 -- an operator of arithmetic
 abbrev pub arithmetic : BinOp → Val → Val → Val

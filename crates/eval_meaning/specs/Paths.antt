@@ -2,7 +2,7 @@
 use Rattle.std.specs.Prelude.{List, [], ◌∷◌, slice_get, unwrap_or}
 use Rattle.value_meaning.specs.Val.{Val, missing, list, struct, items, pairs}
 use Rattle.value_meaning.specs.Pairs.{value_of}
-use Rattle.query_meaning.specs.Tree.{Step, name, at}
+use Rattle.tree_meaning.specs.Tree.{Step, name, at}
 
 -- a name gives the struct's value, an index the list's item counted from 0; MISSING where it is absent or the value is
 -- no struct or no list

@@ -3,8 +3,8 @@ use Rattle.std.specs.Prelude.{◌≡◌, ℕ, ◌+◌, ◌*◌, ℤ, pos, ◌*�
 use Rattle.std.specs.Int.{IsInRange}
 use Rattle.jiff_core.specs.Calendar.{days_from_civil, weekday_number}
 use Rattle.time_meaning.specs.Moments.{IsTime}
-use Rattle.query_meaning.specs.Part.{Part}
-use Rattle.query_meaning.specs.Part as part
+use Rattle.tree_meaning.specs.declared.Part.{Part}
+use Rattle.tree_meaning.specs.declared.Part.TheVariants as part
 use Rattle.eval_meaning.specs.Times.{midnight, trunc}
 
 -- a multiple of a length
@@ -37,15 +37,15 @@ IsJanuary month = month ≡ 1
 -- starts of seconds to weeks are multiples of a length, weeks counted from a Monday; months, quarters and years are the
 -- calendar's
 abbrev pub IsStart : Part → ℤ → Type 0
-IsStart part.microsecond z = Unit {0}
-IsStart part.second z = IsMultiple 1_000_000 z
-IsStart part.minute z = IsMultiple 60_000_000 z
-IsStart part.hour z = IsMultiple 3_600_000_000 z
-IsStart part.day z = IsMultiple 86_400_000_000 z
-IsStart part.week z = IsMonday z
-IsStart part.month z = IsFirstOf IsAny z
-IsStart part.quarter z = IsFirstOf BeginsQuarter z
-IsStart part.year z = IsFirstOf IsJanuary z
+IsStart part.Microsecond z = Unit {0}
+IsStart part.Second z = IsMultiple 1_000_000 z
+IsStart part.Minute z = IsMultiple 60_000_000 z
+IsStart part.Hour z = IsMultiple 3_600_000_000 z
+IsStart part.Day z = IsMultiple 86_400_000_000 z
+IsStart part.Week z = IsMonday z
+IsStart part.Month z = IsFirstOf IsAny z
+IsStart part.Quarter z = IsFirstOf BeginsQuarter z
+IsStart part.Year z = IsFirstOf IsJanuary z
 
 -- the greatest start that isn't after the time
 pub record IsGreatestStart (Start : ℤ → Type 0) (t z : ℤ) : Type 0 where

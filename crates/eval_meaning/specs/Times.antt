@@ -6,8 +6,8 @@ use Rattle.time_meaning.specs.Moments.{is_time}
 use Rattle.time_meaning.specs.Dates.{year_of, month_of, day_of}
 use Rattle.time_meaning.specs.Printed.{day_at, micros_at}
 use Rattle.value_meaning.specs.Val.{Val, missing, int, time}
-use Rattle.query_meaning.specs.Part.{Part}
-use Rattle.query_meaning.specs.Part as part
+use Rattle.tree_meaning.specs.declared.Part.{Part}
+use Rattle.tree_meaning.specs.declared.Part.TheVariants as part
 use Rattle.eval_meaning.specs.Operands.{of_one, of_two, on_time, on_date}
 
 -- the time, if the calendar's range has it
@@ -38,39 +38,39 @@ year_start day = days_from_civil (pos (year_of day)) 1 1
 
 -- the greatest start of such a part that isn't after the time
 unfoldable pub trunc : Part → ℤ → ℤ
-trunc part.microsecond t = t
-trunc part.second t = last_multiple 1_000_000 t
-trunc part.minute t = last_multiple 60_000_000 t
-trunc part.hour t = last_multiple 3_600_000_000 t
-trunc part.day t = midnight (day_at t)
-trunc part.week t = midnight (monday_of (day_at t))
-trunc part.month t = midnight (month_start (day_at t))
-trunc part.quarter t = midnight (quarter_start (day_at t))
-trunc part.year t = midnight (year_start (day_at t))
+trunc part.Microsecond t = t
+trunc part.Second t = last_multiple 1_000_000 t
+trunc part.Minute t = last_multiple 60_000_000 t
+trunc part.Hour t = last_multiple 3_600_000_000 t
+trunc part.Day t = midnight (day_at t)
+trunc part.Week t = midnight (monday_of (day_at t))
+trunc part.Month t = midnight (month_start (day_at t))
+trunc part.Quarter t = midnight (quarter_start (day_at t))
+trunc part.Year t = midnight (year_start (day_at t))
 
 -- what a calendar and a clock in UTC show; they show no week
 unfoldable pub extract : Part → ℤ → Option ℕ
-extract part.microsecond t = Some (micros_at t % 1_000_000)
-extract part.second t = Some (micros_at t / 1_000_000 % 60)
-extract part.minute t = Some (micros_at t / 60_000_000 % 60)
-extract part.hour t = Some (micros_at t / 3_600_000_000)
-extract part.day t = Some (day_of (day_at t))
-extract part.week t = None
-extract part.month t = Some (month_of (day_at t))
-extract part.quarter t = Some ((month_of (day_at t) - 1) / 3 + 1)
-extract part.year t = Some (year_of (day_at t))
+extract part.Microsecond t = Some (micros_at t % 1_000_000)
+extract part.Second t = Some (micros_at t / 1_000_000 % 60)
+extract part.Minute t = Some (micros_at t / 60_000_000 % 60)
+extract part.Hour t = Some (micros_at t / 3_600_000_000)
+extract part.Day t = Some (day_of (day_at t))
+extract part.Week t = None
+extract part.Month t = Some (month_of (day_at t))
+extract part.Quarter t = Some ((month_of (day_at t) - 1) / 3 + 1)
+extract part.Year t = Some (year_of (day_at t))
 
 -- the microseconds of a part; months, quarters and years have no one length
 abbrev pub length_of : Part → Option ℕ
-length_of part.microsecond = Some 1
-length_of part.second = Some 1_000_000
-length_of part.minute = Some 60_000_000
-length_of part.hour = Some 3_600_000_000
-length_of part.day = Some 86_400_000_000
-length_of part.week = Some 604_800_000_000
-length_of part.month = None
-length_of part.quarter = None
-length_of part.year = None
+length_of part.Microsecond = Some 1
+length_of part.Second = Some 1_000_000
+length_of part.Minute = Some 60_000_000
+length_of part.Hour = Some 3_600_000_000
+length_of part.Day = Some 86_400_000_000
+length_of part.Week = Some 604_800_000_000
+length_of part.Month = None
+length_of part.Quarter = None
+length_of part.Year = None
 
 abbrev pub counted : Option ℕ → Val
 counted None = missing

@@ -5,7 +5,7 @@ use Rattle.std.specs.Option.{option_map}
 use Rattle.value_meaning.specs.Val.{Val, missing, list, struct, vals, fields}
 use Rattle.value_meaning.specs.Pairs.{value_of}
 use Rattle.value_meaning.proofs.Chains.{items-vals, pairs-fields}
-use Rattle.query_meaning.specs.Tree.{Step, name, at, Ex, size, exs, exs_size, arms, arms_size}
+use Rattle.tree_meaning.specs.Tree.{Step, name, at, Ex, size, exs, exs_size, arms, arms_size}
 use Rattle.eval_meaning.specs.Logic.{choice_of, is_true}
 use Rattle.eval_meaning.specs.Paths.{step_of, path_of}
 use Rattle.eval_meaning.specs.Evaluation.{eval, evals, choices}

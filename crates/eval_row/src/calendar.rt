@@ -1,14 +1,13 @@
 ghost use Rattle.std.specs.Prelude.{◌≡◌, ◌≤◌, ◌+◌, ◌-◌, ◌*◌, ◌/◌, pos, neg_ℤ};
 ghost use Rattle.std.specs.Int.{IsInRange};
 ghost use Rattle.jiff_core.specs.Calendar.{days_from_civil, IsBetween, IsEpochDay};
-ghost use Rattle.sql_tree.specs.Names.{part_view};
 ghost use Rattle.time_meaning.specs.Moments.{IsTime};
 ghost use Rattle.time_meaning.specs.Dates.{year_of, month_of, day_of};
 ghost use Rattle.time_meaning.specs.Printed as printed;
 ghost use Rattle.eval_meaning.specs.Times as spec;
 
 use jiff_core::civil::Date;
-use snel_values::Part;
+use tree_meaning::Part;
 
 /// A calendar day in UTC, as its date.
 #[derive(Clone, Copy)]
@@ -122,7 +121,7 @@ fn quarter_start(date: Day) -> i64
 #[tactic(auto, unfolding(eval_meaning::specs::Times::trunc))]
 pub(crate) fn trunc(part: Part, time: i64) -> i64
     requires { IsTime time }
-    ensures { result ≡ spec.trunc (part_view part) time }
+    ensures { result ≡ spec.trunc part time }
 {
     match part {
         Part::Microsecond => time,
@@ -144,7 +143,7 @@ pub(crate) fn trunc(part: Part, time: i64) -> i64
 #[tactic(auto, unfolding(eval_meaning::specs::Times::extract))]
 pub(crate) fn extract(part: Part, time: i64) -> Option<u64>
     requires { IsTime time }
-    ensures { result ≡ spec.extract (part_view part) time }
+    ensures { result ≡ spec.extract part time }
 {
     match part {
         Part::Microsecond => Some(micros_at(time) % 1_000_000),

@@ -1,14 +1,14 @@
 ghost use Rattle.std.specs.Prelude.{◌≡◌};
 ghost use Rattle.std.specs.Str.{all_ascii_digits};
 ghost use Rattle.snel_values.specs.View.{view};
-ghost use Rattle.query_meaning.specs.Lexing.{decimal_on};
-ghost use Rattle.sql_tree.specs.Names.{to_view};
+ghost use Rattle.tree_meaning.specs.Decimals.{decimal_on};
 ghost use Rattle.eval_meaning.specs.Casts as spec;
-ghost use Rattle.query_meaning.specs.CastTo as target;
+ghost use Rattle.tree_meaning.specs.declared.CastTo.TheVariants as target;
 ghost use Rattle.eval_row.specs.Magnitude.{up_to_limit};
 
 use crate::numbers::fitted;
-use snel_values::{CastTo, Value};
+use snel_values::Value;
+use tree_meaning::CastTo;
 
 /// Whether each byte is a digit.
 fn all_digits(bytes: &[u8]) -> bool
@@ -106,7 +106,7 @@ fn spelled_truth(text: &str) -> Value
 
 /// `CAST(value AS INTEGER)`
 fn to_integer(value: &Value) -> Value
-    ensures { view result ≡ spec.cast_of target.integer (view value.now) }
+    ensures { view result ≡ spec.cast_of target.Integer (view value.now) }
 {
     match value {
         Value::Null => Value::Null,
@@ -120,7 +120,7 @@ fn to_integer(value: &Value) -> Value
 
 /// `CAST(value AS BOOLEAN)`
 fn to_boolean(value: &Value) -> Value
-    ensures { view result ≡ spec.cast_of target.boolean (view value.now) }
+    ensures { view result ≡ spec.cast_of target.Boolean (view value.now) }
 {
     match value {
         Value::Null => Value::Null,
@@ -133,7 +133,7 @@ fn to_boolean(value: &Value) -> Value
 
 /// `CAST(value AS to)`
 pub(crate) fn cast_of(to: CastTo, value: &Value) -> Value
-    ensures { view result ≡ spec.cast_of (to_view to) (view value.now) }
+    ensures { view result ≡ spec.cast_of to (view value.now) }
 {
     match to {
         CastTo::Integer => to_integer(value),

@@ -1,10 +1,10 @@
 ghost use Rattle.std.specs.Prelude.{◌≡◌};
 ghost use Rattle.snel_values.specs.View.{view, views};
-ghost use Rattle.sql_tree.specs.Names.{op_view};
 ghost use Rattle.eval_meaning.specs.Comparisons as spec;
 
 use crate::logic::{and_of, is_missing, is_null, is_true, or_of};
-use snel_values::{BinOp, Value};
+use snel_values::Value;
+use tree_meaning::BinOp;
 use std::cmp::Ordering;
 
 /// How two values stand to each other, if they can be compared.
@@ -22,7 +22,7 @@ fn order_of(a: &Value, b: &Value) -> Option<Ordering>
 
 /// Whether an operator holds of values that stand so to each other.
 fn meets(op: BinOp, order: Ordering) -> bool
-    ensures { result ≡ spec.meets (op_view op) order }
+    ensures { result ≡ spec.meets op order }
 {
     match op {
         BinOp::Eq => order == Ordering::Equal,
@@ -37,7 +37,7 @@ fn meets(op: BinOp, order: Ordering) -> bool
 
 /// `a op b` of an operator that compares.
 pub(crate) fn compare(op: BinOp, a: &Value, b: &Value) -> Value
-    ensures { view result ≡ spec.compare (op_view op) (view a.now) (view b.now) }
+    ensures { view result ≡ spec.compare op (view a.now) (view b.now) }
 {
     if is_missing(a) || is_missing(b) {
         return Value::Missing;

@@ -1,8 +1,7 @@
 ghost use Rattle.std.specs.Prelude.{◌≡◌, IfOk};
-ghost use Rattle.query_meaning.specs.Tree.{exs, arms as arms_of};
+ghost use Rattle.tree_meaning.specs.Tree.{exs, arms as arms_of};
 ghost use Rattle.snel_values.specs.View.{view as value_view, views};
-ghost use Rattle.sql_tree.specs.View.{view};
-ghost use Rattle.sql_tree.specs.Names.{op_view, func_view};
+ghost use Rattle.query_tree.specs.View.{view};
 ghost use Rattle.eval_meaning.specs.Logic as logic_spec;
 ghost use Rattle.eval_meaning.specs.Evaluation as spec;
 ghost use Rattle.eval_meaning.specs.Evaluation.{eval};
@@ -14,13 +13,14 @@ use crate::matching::{char_length, matching_of};
 use crate::numbers::{arithmetic, negative};
 use crate::paths::value_at;
 use crate::times::{extract_of, shift_of, trunc_of, unix_epoch, unix_micro};
-use snel_values::{BinOp, Func, Items, OutOfMemory, Value};
-use sql_tree::{Arms, Expr, Exprs, Operand};
+use snel_values::{Items, OutOfMemory, Value};
+use tree_meaning::{BinOp, Func};
+use query_tree::{Arms, Expr, Exprs, Operand};
 use std::alloc::Global;
 
 /// `a op b`
 fn binary(op: BinOp, a: &Value, b: &Value) -> Value
-    ensures { value_view result ≡ spec.binary (op_view op) (value_view a.now) (value_view b.now) }
+    ensures { value_view result ≡ spec.binary op (value_view a.now) (value_view b.now) }
 {
     match op {
         BinOp::Add | BinOp::Sub | BinOp::Mul | BinOp::Div | BinOp::Rem => arithmetic(op, a, b),
@@ -46,7 +46,7 @@ fn coalesce(alloc: Global, values: &[Value]) -> Result<Value, OutOfMemory>
 
 /// A function of values.
 fn call_of(alloc: Global, name: Func, values: &[Value]) -> Result<Value, OutOfMemory>
-    ensures { IfOk result (λ v. value_view v ≡ spec.call_of (func_view name) (views values.now)) }
+    ensures { IfOk result (λ v. value_view v ≡ spec.call_of name (views values.now)) }
 {
     match (name, values) {
         (Func::Coalesce, _) => coalesce(alloc, values),

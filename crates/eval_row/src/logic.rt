@@ -1,10 +1,10 @@
 ghost use Rattle.std.specs.Prelude.{◌≡◌};
 ghost use Rattle.snel_values.specs.View.{view};
-ghost use Rattle.sql_tree.specs.Names.{what_view};
 ghost use Rattle.eval_meaning.specs.Logic as spec;
 ghost use Rattle.eval_row.specs.Logic.{logic_view};
 
-use snel_values::{IsWhat, Value};
+use snel_values::Value;
+use tree_meaning::IsWhat;
 
 /// What AND, OR and NOT read of a value.
 #[derive(Clone, Copy)]
@@ -107,7 +107,7 @@ pub(crate) fn is_missing(value: &Value) -> bool
 
 /// `value IS what`
 pub(crate) fn is_of(what: IsWhat, value: &Value) -> Value
-    ensures { view result ≡ spec.is_of (what_view what) (view value.now) }
+    ensures { view result ≡ spec.is_of what (view value.now) }
 {
     Value::Bool(match what {
         IsWhat::Null => is_null(value),

@@ -2,10 +2,10 @@ ghost use Rattle.std.specs.Prelude.{◌≡◌, ◌==◌, ◌||◌, IfOk, map};
 ghost use Rattle.std.specs.Str.{chars};
 ghost use Rattle.std.specs.Char.{to_ascii_lowercase};
 ghost use Rattle.snel_values.specs.View.{view};
-ghost use Rattle.sql_tree.specs.Names.{how_view};
 ghost use Rattle.eval_meaning.specs.Matching as spec;
 
-use snel_values::{How, OutOfMemory, Value};
+use snel_values::{OutOfMemory, Value};
+use tree_meaning::How;
 use std::alloc::Global;
 
 /// The characters of a text.
@@ -81,7 +81,7 @@ fn stands_in(part: &[u8], whole: &[u8]) -> bool
 
 /// Whether a text matches.
 fn matches(alloc: Global, how: How, pattern: &str, text: &str) -> Result<bool, OutOfMemory>
-    ensures { IfOk result (λ b. b ≡ spec.matches (how_view how) pattern.now text.now) }
+    ensures { IfOk result (λ b. b ≡ spec.matches how pattern.now text.now) }
 {
     match how {
         How::Like => {
@@ -107,7 +107,7 @@ pub(crate) fn matching_of(
     pattern: &str,
     value: &Value,
 ) -> Result<Value, OutOfMemory>
-    ensures { IfOk result (λ v. view v ≡ spec.matching_of (how_view how) pattern.now (view value.now)) }
+    ensures { IfOk result (λ v. view v ≡ spec.matching_of how pattern.now (view value.now)) }
 {
     match value {
         Value::Null => Ok(Value::Null),

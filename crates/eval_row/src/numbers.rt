@@ -1,10 +1,10 @@
 ghost use Rattle.std.specs.Prelude.{◌≡◌, ◌+ℤ◌, ◌-ℤ◌, ◌*ℤ◌, int_div, int_rem};
 ghost use Rattle.snel_values.specs.View.{view};
-ghost use Rattle.sql_tree.specs.Names.{op_view};
 ghost use Rattle.eval_meaning.specs.Numbers as spec;
 
 use crate::logic::{is_missing, is_null};
-use snel_values::{BinOp, Value};
+use snel_values::Value;
+use tree_meaning::BinOp;
 
 /// The number, if it is in the range of a row's numbers.
 pub(crate) fn fitted(number: i128) -> Value
@@ -19,7 +19,7 @@ pub(crate) fn fitted(number: i128) -> Value
 
 /// `x op y` of an operator of arithmetic.
 fn computed(op: BinOp, x: i128, y: i128) -> Value
-    ensures { view result ≡ spec.computed (op_view op) x y }
+    ensures { view result ≡ spec.computed op x y }
 {
     match op {
         BinOp::Add => sum_of(x, y),
@@ -89,7 +89,7 @@ fn rest_of(x: i128, y: i128) -> Value
 
 /// `a op b` of an operator of arithmetic.
 pub(crate) fn arithmetic(op: BinOp, a: &Value, b: &Value) -> Value
-    ensures { view result ≡ spec.arithmetic (op_view op) (view a.now) (view b.now) }
+    ensures { view result ≡ spec.arithmetic op (view a.now) (view b.now) }
 {
     if is_missing(a) || is_missing(b) {
         return Value::Missing;

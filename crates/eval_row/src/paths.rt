@@ -2,7 +2,7 @@ ghost use Rattle.std.specs.Prelude.{◌≡◌, IfOk, map, unwrap_or};
 ghost use Rattle.std.specs.Option.{option_map};
 ghost use Rattle.value_meaning.specs.Val.{missing};
 ghost use Rattle.snel_values.specs.View.{view};
-ghost use Rattle.sql_tree.specs.View.{step_view};
+ghost use Rattle.query_tree.specs.View.{step_view};
 ghost use Rattle.eval_meaning.specs.Paths as spec;
 
 use snel_values::{OutOfMemory, Step, Steps, Value};

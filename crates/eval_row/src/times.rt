@@ -1,13 +1,13 @@
 ghost use Rattle.std.specs.Prelude.{◌≡◌, pos, Some, ◌*ℤ◌};
 ghost use Rattle.std.specs.Int.{int_div_euclid};
 ghost use Rattle.snel_values.specs.View.{view};
-ghost use Rattle.sql_tree.specs.Names.{part_view};
 ghost use Rattle.time_meaning.specs.Moments.{IsTime, is_time as spec_is_time};
 ghost use Rattle.eval_meaning.specs.Times as spec;
 
 use crate::calendar::{extract, trunc};
 use crate::logic::{is_missing, is_null};
-use snel_values::{Part, Value};
+use snel_values::Value;
+use tree_meaning::Part;
 
 /// Whether the calendar's range has the time.
 pub(crate) fn is_time(time: i128) -> bool
@@ -29,7 +29,7 @@ fn timed(time: i128) -> Value
 
 /// `DATE_TRUNC(part, value)`
 pub(crate) fn trunc_of(part: Part, value: &Value) -> Value
-    ensures { view result ≡ spec.trunc_of (part_view part) (view value.now) }
+    ensures { view result ≡ spec.trunc_of part (view value.now) }
 {
     match value {
         Value::Null => Value::Null,
@@ -46,7 +46,7 @@ pub(crate) fn trunc_of(part: Part, value: &Value) -> Value
 
 /// `EXTRACT(part FROM value)`
 pub(crate) fn extract_of(part: Part, value: &Value) -> Value
-    ensures { view result ≡ spec.extract_of (part_view part) (view value.now) }
+    ensures { view result ≡ spec.extract_of part (view value.now) }
 {
     match value {
         Value::Null => Value::Null,
@@ -66,7 +66,7 @@ pub(crate) fn extract_of(part: Part, value: &Value) -> Value
 
 /// The microseconds of a part, if it has one length.
 fn length_of(part: Part) -> Option<u64>
-    ensures { result ≡ spec.length_of (part_view part) }
+    ensures { result ≡ spec.length_of part }
 {
     match part {
         Part::Microsecond => Some(1),
@@ -81,7 +81,7 @@ fn length_of(part: Part) -> Option<u64>
 
 /// The time plus so many of a part, MISSING out of range.
 fn moved(part: Part, count: i128, time: i64) -> Value
-    ensures { view result ≡ spec.moved (spec.length_of (part_view part)) count time }
+    ensures { view result ≡ spec.moved (spec.length_of part) count time }
 {
     match length_of(part) {
         Some(length) => moved_by(length, count, time),
@@ -104,7 +104,7 @@ fn moved_by(length: u64, count: i128, time: i64) -> Value
 
 /// `DATE_ADD(part, count, value)`
 pub(crate) fn shift_of(part: Part, count: &Value, value: &Value) -> Value
-    ensures { view result ≡ spec.shift_of (part_view part) (view count.now) (view value.now) }
+    ensures { view result ≡ spec.shift_of part (view count.now) (view value.now) }
 {
     if is_missing(count) || is_missing(value) {
         return Value::Missing;

@@ -1,12 +1,12 @@
 use eval_row::eval_row;
+use query_tree::{Operand, Outputs, Query};
 use snel_values::{Items, OutOfMemory, Pairs, Text, Value};
 use sql_reader::read;
-use sql_tree::{Expr, Outputs, Query};
 use std::alloc::{AllocError, Global};
 use std::test::Fail;
 
 // The expression of the first output.
-fn first_output(query: &Query) -> Option<&Expr> {
+fn first_output(query: &Query) -> Option<&Operand> {
     match &query.outputs {
         Outputs::Star => None,
         Outputs::Named(items) => match items.get(0) {
@@ -19,7 +19,7 @@ fn first_output(query: &Query) -> Option<&Expr> {
 // The value of the first output on a row.
 fn first_value(alloc: Global, query: &Query, row: &Value) -> Option<Value> {
     match first_output(query) {
-        Some(expr) => eval_row(alloc, expr, row).ok(),
+        Some(expr) => eval_row(alloc, expr.get(), row).ok(),
         None => None,
     }
 }

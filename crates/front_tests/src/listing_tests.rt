@@ -1,20 +1,20 @@
 ghost use Rattle.std.specs.Prelude.{◌≡◌, ◌<◌, ℕ, List, IfOk, All};
 ghost use Rattle.program_meaning.specs.Programs.{mask_count, value_count};
 ghost use Rattle.program_meaning.specs.Jobs.{IsAggregate, AreEnds};
-ghost use Rattle.query_meaning.specs.WellFormed.{IsWellFormed};
-ghost use Rattle.sql_tree.specs.Queries.{query_view};
+ghost use Rattle.tree_meaning.specs.WellFormed.{IsWellFormed};
+ghost use Rattle.query_tree.specs.Queries.{query_view};
 ghost use Rattle.lane_ssa.specs.Views.{ends_view};
 
 use crate::long_texts::spell;
-use agg_laws::AggName;
 use lane_ssa::{Builder, EndAgg, EndAggs, EndOut, EndOuts, Ends, Instr, Registers};
 use plan_lower::{is_lowered, listing, lower};
 use query_check::check;
+use query_tree::Query;
 use snel_values::{Bytes, OutOfMemory, Text, Value};
 use sql_reader::read;
-use sql_tree::Query;
 use std::alloc::Global;
 use std::test::Fail;
+use tree_meaning::AggName;
 
 // The listing of the job of a query, if it is accepted and lowered.
 fn query_listing(alloc: Global, query: Query) -> Option<Bytes>

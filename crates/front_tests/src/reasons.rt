@@ -1,8 +1,8 @@
 //! The reason for which a text is refused, in the words of README.md.
 use plan_lower::is_lowered;
 use query_check::{CheckFault, Limit, Place, check};
+use query_tree::Query;
 use sql_reader::{SqlFault, read};
-use sql_tree::Query;
 use std::alloc::Global;
 
 /// The words of a reason round its number, if it has one. No words say that nothing is refused.

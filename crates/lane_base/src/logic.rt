@@ -3,14 +3,13 @@
 ghost use Rattle.std.specs.Prelude.{◌≡◌, ◌<◌, ℕ, ◌&&◌};
 ghost use Rattle.block_meaning.specs.Tables.{Table};
 ghost use Rattle.eval_meaning.specs.Logic.{and_of, or_of, not_of, is_of, is_true};
-ghost use Rattle.sql_tree.specs.Names.{what_view};
 ghost use Rattle.lane_base.specs.Bits.{has};
 ghost use Rattle.lane_base.specs.Asking.{is_so};
 ghost use Rattle.lane_base.specs.Registers.{value_at, under, AreLegal, AreLegalIn};
 
 use crate::lanes::Lanes;
 use crate::mask::LaneMask;
-use snel_values::IsWhat;
+use tree_meaning::IsWhat;
 
 /// `a AND b` in the lanes of `m`.
 pub fn and16<'b>(a: &Lanes<'b>, b: &Lanes<'b>, m: LaneMask) -> Lanes<'b>
@@ -51,7 +50,7 @@ pub fn not16<'b>(a: &Lanes<'b>, m: LaneMask) -> Lanes<'b>
 /// `a IS what` in the lanes of `m`.
 pub fn is16<'b>(what: IsWhat, a: &Lanes<'b>, m: LaneMask) -> Lanes<'b>
     ensures value { (table : Table) → AreLegalIn table m.0 a.now → (i : ℕ) → i < 16
-        → value_at table result i ≡ under (has m.0 i) (is_of (what_view what) (value_at table a.now i)) }
+        → value_at table result i ≡ under (has m.0 i) (is_of what (value_at table a.now i)) }
     ensures legal { (table : Table) → AreLegal table result }
 {
     let yes = asked(what, a, m);
@@ -61,7 +60,7 @@ pub fn is16<'b>(what: IsWhat, a: &Lanes<'b>, m: LaneMask) -> Lanes<'b>
 // The lanes of `m` in which `a IS what`.
 fn asked(what: IsWhat, a: &Lanes<'_>, m: LaneMask) -> LaneMask
     ensures { (table : Table) → AreLegalIn table m.0 a.now → (i : ℕ) → i < 16
-        → has result.0 i ≡ (has m.0 i && is_so (what_view what) (value_at table a.now i)) }
+        → has result.0 i ≡ (has m.0 i && is_so what (value_at table a.now i)) }
 {
     match what {
         IsWhat::Null => m.and(a.null),

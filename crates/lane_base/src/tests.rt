@@ -1,7 +1,7 @@
 use crate::{
     LaneMask, Lanes, Look, and16, const16, first16, is16, keep16, merge16, not16, or16, true16,
 };
-use snel_values::IsWhat;
+use tree_meaning::IsWhat;
 
 /// One value of each kind: MISSING, NULL, true, false, a number, a time, a text, a list.
 fn kinds() -> [Look<'static>; 8] {

@@ -7,7 +7,7 @@ use Rattle.block_meaning.specs.Cells.{IsCell}
 use Rattle.block_meaning.specs.CellReading.{cell_value}
 use Rattle.block_meaning.proofs.NestedReading.{cells_read}
 use Rattle.block_meaning.proofs.CellSteps.{is_cell_reads}
-use Rattle.query_meaning.specs.Tree.{name}
+use Rattle.tree_meaning.specs.Tree.{name}
 use Rattle.eval_meaning.specs.Paths.{step_of}
 use Rattle.lane_base.specs.declared.lanes.Lanes.{Lanes}
 use Rattle.lane_base.specs.Bits.{has}

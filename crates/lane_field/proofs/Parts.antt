@@ -10,7 +10,7 @@ use Rattle.block_meaning.specs.Cells.{IsCell}
 use Rattle.block_meaning.specs.CellReading.{is_cell, cell_value}
 use Rattle.block_meaning.proofs.NestedReading.{cells_read}
 use Rattle.block_meaning.proofs.BlockReading.{vals-items}
-use Rattle.query_meaning.specs.Tree.{name, at}
+use Rattle.tree_meaning.specs.Tree.{name, at}
 use Rattle.eval_meaning.specs.Paths.{step_of}
 use Rattle.ion_cells.specs.declared.cell.Cell.{Cell}
 use Rattle.ion_cells.specs.declared.iterators.Cells.{Cells}

@@ -2,7 +2,7 @@
 use Rattle.std.specs.Prelude.{◌≡◌, ◌<◌, ◌^◌, ℕ, List, true, false, Option, None, Some, IfSome}
 use Rattle.block_meaning.specs.Tables.{Table, last_symbol, text_of, TextsRise}
 use Rattle.block_meaning.specs.CellReading.{is_cell}
-use Rattle.query_meaning.specs.Tree.{Step, name, at}
+use Rattle.tree_meaning.specs.Tree.{Step, name, at}
 use Rattle.eval_meaning.specs.Paths.{step_of}
 use Rattle.ion_cells.specs.declared.cell.Cell.{Cell}
 use Rattle.lane_base.specs.declared.lanes.Lanes.{Lanes}

@@ -3,7 +3,7 @@
 ghost use Rattle.std.specs.Prelude.{◌≡◌, ◌<◌, ◌+◌, ◌^◌, ℕ, List, false, IfSome};
 ghost use Rattle.block_meaning.specs.Tables.{Table};
 ghost use Rattle.block_meaning.specs.CellReading.{cell_value};
-ghost use Rattle.query_meaning.specs.Tree.{name};
+ghost use Rattle.tree_meaning.specs.Tree.{name};
 ghost use Rattle.eval_meaning.specs.Paths.{step_of};
 ghost use Rattle.ion_cells.specs.Shown.{shown};
 ghost use Rattle.lane_base.specs.Bits.{has};

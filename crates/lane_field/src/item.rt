@@ -3,7 +3,7 @@
 ghost use Rattle.std.specs.Prelude.{◌≡◌, ◌<◌, ℕ, false, IfSome};
 ghost use Rattle.block_meaning.specs.Tables.{Table};
 ghost use Rattle.block_meaning.specs.CellReading.{cell_value};
-ghost use Rattle.query_meaning.specs.Tree as tree;
+ghost use Rattle.tree_meaning.specs.Tree as tree;
 ghost use Rattle.eval_meaning.specs.Paths.{step_of};
 ghost use Rattle.lane_base.specs.Bits.{has};
 ghost use Rattle.lane_field.specs.CellsOf.{cell_in, no_cell, denoted, IsCellOf, AreCellsOf};

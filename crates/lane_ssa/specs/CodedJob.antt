@@ -4,8 +4,8 @@ use Rattle.std.proofs.Common.{ap}
 use base.Stored.{Gv, gnil, gnum, gcons}
 use Rattle.std.specs.Coded.{Coded, code_by, coded×, coded_option, coded_list, coded_ℕ, coded_bool}
 use Rattle.value_meaning.specs.Code.{coded_val}
-use Rattle.query_meaning.specs.AggName.{AggName}
-use Rattle.query_meaning.specs.Code.{op_number, op_inj, what_number, what_inj, aggs_number, aggs_inj}
+use Rattle.tree_meaning.specs.declared.AggName.{AggName}
+use Rattle.tree_meaning.specs.Code.{op_number, op_inj, what_number, what_inj, aggs_number, aggs_inj}
 use Rattle.program_meaning.specs.Instructions.{One, field, item, negation, asks, Two, binary, Source, row, literal, of_one, of_two, Instr, all, holding, make}
 use Rattle.program_meaning.specs.Jobs.{Ends, Job}
 

@@ -1,6 +1,5 @@
 -- What instructions and ends stand for.
 use Rattle.snel_values.specs.View.{view}
-use Rattle.sql_tree.specs.Names.{op_view, what_view}
 use Rattle.program_meaning.specs.Instructions.{field, item, negation, asks, binary, row, literal, of_one, of_two, Instr, all, holding, make}
 use Rattle.program_meaning.specs.Jobs.{Ends}
 use Rattle.lane_ssa.specs.declared.instr.Instr.{Instr as InstrCode}
@@ -15,8 +14,8 @@ instr_view (code.Field m a n) = make m (of_one (field n) a)
 instr_view (code.At m a i) = make m (of_one (item i) a)
 instr_view (code.Const m v) = make m (literal (view v))
 instr_view (code.Not m a) = make m (of_one negation a)
-instr_view (code.Is m w a) = make m (of_one (asks (what_view w)) a)
-instr_view (code.Bin m o a b) = make m (of_two (binary (op_view o)) a b)
+instr_view (code.Is m w a) = make m (of_one (asks w) a)
+instr_view (code.Bin m o a b) = make m (of_two (binary o) a b)
 
 abbrev pub ends_view : EndsCode → Ends
 ends_view e =

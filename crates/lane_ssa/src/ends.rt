@@ -2,7 +2,7 @@ ghost use Rattle.std.specs.Prelude.{◌≡◌, [], ◌∷◌, ◌++◌, length, 
 ghost use Rattle.std.specs.Option.{option_map};
 ghost use Rattle.lane_ssa.specs.EndParts.{out_view, agg_end_view};
 
-use agg_laws::AggName;
+use tree_meaning::AggName;
 use snel_values::{OutOfMemory, Text};
 use std::alloc::Global;
 use std::marker::Model;
@@ -142,7 +142,7 @@ pub struct EndAggs {
 
 impl Model for EndAggs {
     ghost use Rattle.std.specs.Prelude.{List, Option, ℕ, map};
-    ghost use Rattle.query_meaning.specs.AggName.{AggName as Aggregate};
+    ghost use Rattle.tree_meaning.specs.declared.AggName.{AggName as Aggregate};
     ghost use Rattle.lane_ssa.specs.CodedJob.{coded_aggs};
     ghost use Rattle.lane_ssa.specs.EndParts.{agg_end_view};
 

@@ -1,4 +1,5 @@
-use snel_values::{BinOp, IsWhat, Text, Value};
+use snel_values::{Text, Value};
+use tree_meaning::{BinOp, IsWhat};
 
 /// One instruction, which makes one register, a mask or a value. Masks and values are numbered apart, from 0 on, each in the
 /// order of making. `mask` is the number of the mask in whose lanes the result is computed; `of`, `a` and `b` are those of

@@ -17,7 +17,7 @@ use crate::operands::{Operands, operands_in};
 use crate::path::{field16, place16};
 use ion_symtab::SymTab;
 use lane_base::{LaneMask, Lanes, Look, and16, const16, is16, keep16, not16, or16, true16};
-use snel_values::BinOp;
+use tree_meaning::BinOp;
 
 /// What an instruction makes of the rows, in the lanes of `m`; MISSING where it makes no value of them.
 #[inline(always)]

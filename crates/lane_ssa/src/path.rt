@@ -1,8 +1,8 @@
 //! One step of a path, sixteen lanes at once.
 
 ghost use Rattle.std.specs.Prelude.{◌≡◌, ◌<◌, ℕ, List};
-ghost use Rattle.query_meaning.specs.Tree.{name};
-ghost use Rattle.query_meaning.specs.Tree as tree;
+ghost use Rattle.tree_meaning.specs.Tree.{name};
+ghost use Rattle.tree_meaning.specs.Tree as tree;
 ghost use Rattle.eval_meaning.specs.Paths.{step_of};
 ghost use Rattle.lane_base.specs.Bits.{has};
 ghost use Rattle.lane_base.specs.Registers.{value_at, under, AreLegal};

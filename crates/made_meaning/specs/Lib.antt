@@ -1,2 +1,3 @@
+pub mod OverGroups
 pub mod MadeRows
 pub mod Laws

@@ -1,33 +1,63 @@
--- The made rows of a query that isn't grouped: one of each row that WHERE keeps.
-use Rattle.std.specs.Prelude.{ℕ, Bool, not, List, map, Option}
+-- The made rows of a query: one of each row that WHERE keeps, or, where the query is grouped, one of each group that HAVING
+-- keeps.
+use Rattle.std.specs.Prelude.{ℕ, Bool, true, not, List, [], map, Option, None, Some, if◌then◌else◌}
 use Rattle.std.specs.List.{filter, enumerate_from}
 use Rattle.value_meaning.specs.Val.{Val}
-use Rattle.query_meaning.specs.Tree.{Ex, Outs, star, named, Query}
+use Rattle.tree_meaning.specs.Tree.{Ex, Outs, star, named, Query}
 use Rattle.check_meaning.specs.Names.{output_name}
 use Rattle.check_meaning.specs.Places.{order_ex}
-use Rattle.eval_meaning.specs.Logic.{is_missing}
+use Rattle.check_meaning.specs.Aggregates.{is_grouped}
+use Rattle.eval_meaning.specs.Logic.{is_missing, is_true}
+use Rattle.eval_meaning.specs.Pair.{alone}
 use Rattle.eval_meaning.specs.Evaluation.{eval}
 use Rattle.eval_meaning.specs.Passed.{passed}
 use Rattle.answer_meaning.specs.Made.{Output, Made, pairs_of}
+use Rattle.made_meaning.specs.OverGroups.{Group, groups, over}
 
--- the name and the value of output k on a row
-abbrev pub named_value : Val → ℕ × (Ex × Option (List ℕ)) → List ℕ × Val
-named_value row o = (output_name o.0 o.1, eval o.1.0 row)
+-- the name and the value of output k
+abbrev pub named_value : (Ex → Val) → ℕ × (Ex × Option (List ℕ)) → List ℕ × Val
+named_value value o = (output_name o.0 o.1, value o.1.0)
 
 abbrev pub is_there : List ℕ × Val → Bool
 is_there p = not (is_missing p.1)
 
--- in the order of the outputs each name and its value, but no pair where the value is MISSING; for `*` it is the row
-abbrev pub output_of : Outs → Val → Output
-output_of star row = pairs_of row
-output_of (named items) row = filter is_there (map (named_value row) (enumerate_from 1 items))
+-- in the order of the outputs each name and its value, but no pair where the value is MISSING; `*` is the whole
+abbrev pub output_by : (Ex → Val) → Output → Outs → Output
+output_by value whole star = whole
+output_by value whole (named items) = filter is_there (map (named_value value) (enumerate_from 1 items))
 
--- the values of the order keys, where a key that stands for an output has the output's value
-abbrev pub keys_of : Query → Val → List Val
-keys_of q row = map (λ k. eval (order_ex q.outs k.0) row) q.order
+-- A made row, by the value of each expression. An order key that stands for an output has the output's value.
+abbrev pub made_by : Query → (Ex → Val) → Output → Made
+made_by q value whole =
+    record {
+      keys = map (λ k. value (order_ex q.outs k.0)) q.order;
+      output = output_by value whole q.outs;
+    }
+
+-- the value of an expression on a row
+abbrev pub on_row : Val → Ex → Val
+on_row row e = eval e (alone row)
 
 abbrev pub made_row : Query → Val → Made
-made_row q row = record { keys = keys_of q row; output = output_of q.outs row }
+made_row q row = made_by q (on_row row) (pairs_of row)
 
-abbrev pub made : Query → List Val → List Made
-made q rows = map (made_row q) (passed q rows)
+-- a group has no output for `*`
+abbrev pub made_group : Query → Group → Made
+made_group q g = made_by q (over q g) []
+
+-- HAVING keeps the groups over which it is true, and without it all
+abbrev pub has_true : Option Ex → (Ex → Val) → Bool
+has_true None value = true
+has_true (Some e) value = is_true (value e)
+
+abbrev pub kept_groups : Query → List Group → List Group
+kept_groups q gs = filter (λ g. has_true q.having (over q g)) gs
+
+abbrev pub made_rows : Query → List Val → List Made
+made_rows q rows = map (made_row q) rows
+
+abbrev pub made_groups : Query → List Val → List Made
+made_groups q rows = map (made_group q) (kept_groups q (groups q.keys rows))
+
+unfoldable pub made : Query → List Val → List Made
+made q rows = if is_grouped q then made_groups q (passed q rows) else made_rows q (passed q rows)

@@ -1,7 +1,13 @@
-//! What a query that isn't grouped makes of rows. Nothing here runs: each function is a law of the definitions.
+//! What a query makes of rows: a made row of each that WHERE keeps, or of each group. Nothing here runs: each function is
+//! a law of the definitions.
 #![tactic(auto)]
 
-ghost use Rattle.made_meaning.specs.Laws.{StarMakesAllRows};
+ghost use Rattle.made_meaning.specs.Laws.{StarMakesAllRows, UngroupedMakesRows};
+
+/// A query that isn't grouped makes one row of each that WHERE keeps.
+pub fn ungrouped_makes_rows()
+    ensures { UngroupedMakesRows }
+{}
 
 /// `SELECT *` makes of each row its own pairs.
 pub fn star_makes_all_rows()

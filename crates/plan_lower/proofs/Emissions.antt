@@ -3,7 +3,7 @@ use Rattle.std.proofs.Common.{◌≡◌, ℕ, ◌+◌, ◌<◌, refl, ap, sym, s
 use Rattle.std.proofs.lemmas.List.{map-append}
 use Rattle.std.specs.Prelude.{slice_get}
 use Rattle.value_meaning.specs.Val.{Val}
-use Rattle.query_meaning.specs.Tree.{Step, Ex, lit}
+use Rattle.tree_meaning.specs.Tree.{Step, Ex, lit}
 use Rattle.eval_meaning.specs.Evaluation.{eval}
 use Rattle.eval_meaning.specs.Paths.{step_of, path_of}
 use Rattle.program_meaning.specs.Instructions.{One, Two, row, literal, of_one, of_two, Instr, holding, make}

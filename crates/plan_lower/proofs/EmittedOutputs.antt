@@ -4,7 +4,7 @@ use Rattle.std.proofs.lemmas.List.{map-append}
 use Rattle.std.proofs.lemmas.List.Elements.{All-push}
 use Rattle.std.proofs.Math.ListN.{get_or}
 use Rattle.value_meaning.specs.Val.{Val}
-use Rattle.query_meaning.specs.Tree.{Ex}
+use Rattle.tree_meaning.specs.Tree.{Ex}
 use Rattle.eval_meaning.specs.Evaluation.{eval}
 use Rattle.program_meaning.specs.Instructions.{Instr}
 use Rattle.program_meaning.specs.Programs.{mask_count, value_count, Extends}

@@ -2,7 +2,7 @@
 use Rattle.std.proofs.Common.{◌≡◌, ℕ, ◌+◌, ◌<◌, refl, ap, ◌∙◌, arith, Bool, true, false, cond, ◌&&◌, List, [], ◌∷◌, ◌++◌, Some, None, Result, Ok, Err, IfOk}
 use Rattle.std.proofs.lemmas.List.Sums.{sum_by-append}
 use Rattle.value_meaning.specs.Val.{Val}
-use Rattle.query_meaning.specs.Tree.{Ex}
+use Rattle.tree_meaning.specs.Tree.{Ex}
 use Rattle.eval_meaning.specs.Logic.{is_true}
 use Rattle.eval_meaning.specs.Evaluation.{eval}
 use Rattle.program_meaning.specs.Instructions.{One, Two, Source, row, literal, of_one, of_two, Instr, holding, make}

@@ -8,10 +8,10 @@ use Rattle.std.proofs.lemmas.List.Folds.{list_any-append}
 use Rattle.std.specs.Prelude.{is_none, ◌==◌, ℤ, pos, negsuc}
 use Rattle.std.specs.List.{list_all, list_any, enumerate_from}
 use Rattle.value_meaning.specs.Val.{Val, missing, null, truth, int, time, text, list, struct}
-use Rattle.query_meaning.specs.BinOp.{BinOp}
-use Rattle.query_meaning.specs.BinOp as op
-use Rattle.query_meaning.specs.Tree.{Ex, lit, path, neg, no, bin, is, member, between, matching, choice, cast, call, trunc, extract, shift, agg_of_rows, agg, Outs, star, named, Query}
-use Rattle.query_meaning.specs.WellFormed.{IsNumber, IsLiteral}
+use Rattle.tree_meaning.specs.declared.BinOp.{BinOp}
+use Rattle.tree_meaning.specs.declared.BinOp.TheVariants as op
+use Rattle.tree_meaning.specs.Tree.{Ex, lit, path, neg, no, bin, is, member, between, matching, choice, cast, call, trunc, extract, shift, agg_of_rows, agg, Outs, star, named, Query}
+use Rattle.tree_meaning.specs.WellFormed.{IsNumber, IsLiteral}
 use Rattle.check_meaning.specs.Names.{items_of, names, output_name}
 use Rattle.check_meaning.specs.Parts.{within, parts_outside, none}
 use Rattle.check_meaning.specs.Place.{Place, output, where_test}
@@ -155,19 +155,19 @@ is_constant (struct fs) h = h
 
 -- AND and OR are operators of instructions
 pub is_operator : (o : BinOp) → is_lowered_op o ≡ true → IsOperator o
-is_operator op.both h = tt
-is_operator op.either h = tt
-is_operator op.add h = absurd (cc)
-is_operator op.sub h = absurd (cc)
-is_operator op.mul h = absurd (cc)
-is_operator op.div h = absurd (cc)
-is_operator op.rem h = absurd (cc)
-is_operator op.eq h = absurd (cc)
-is_operator op.ne h = absurd (cc)
-is_operator op.lt h = absurd (cc)
-is_operator op.le h = absurd (cc)
-is_operator op.gt h = absurd (cc)
-is_operator op.ge h = absurd (cc)
+is_operator op.And h = tt
+is_operator op.Or h = tt
+is_operator op.Add h = absurd (cc)
+is_operator op.Sub h = absurd (cc)
+is_operator op.Mul h = absurd (cc)
+is_operator op.Div h = absurd (cc)
+is_operator op.Rem h = absurd (cc)
+is_operator op.Eq h = absurd (cc)
+is_operator op.Ne h = absurd (cc)
+is_operator op.Lt h = absurd (cc)
+is_operator op.Le h = absurd (cc)
+is_operator op.Gt h = absurd (cc)
+is_operator op.Ge h = absurd (cc)
 
 -- the names of outputs
 pub names_of_star : (outs : Outs) → outs ≡ star → names outs ≡ []

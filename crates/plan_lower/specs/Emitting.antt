@@ -1,7 +1,7 @@
 -- Programs that go on by the instructions of expressions.
 use Rattle.std.specs.Prelude.{◌≡◌, ℕ, ◌<◌, ◌&&◌, List, All, Option, map}
 use Rattle.value_meaning.specs.Val.{Val}
-use Rattle.query_meaning.specs.Tree.{Ex}
+use Rattle.tree_meaning.specs.Tree.{Ex}
 use Rattle.eval_meaning.specs.Evaluation.{eval}
 use Rattle.program_meaning.specs.Instructions.{Instr}
 use Rattle.program_meaning.specs.Programs.{mask_count, value_count, Extends}

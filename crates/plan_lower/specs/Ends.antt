@@ -1,6 +1,6 @@
 -- The ends of jobs of queries without groups and sort keys.
 use Rattle.std.specs.Prelude.{ℕ, Bool, false, List, [], map, Option}
-use Rattle.query_meaning.specs.Tree.{Ex}
+use Rattle.tree_meaning.specs.Tree.{Ex}
 use Rattle.program_meaning.specs.Jobs.{Ends}
 
 -- the expressions of outputs, and the names and the registers of the ends' outputs

@@ -1,14 +1,14 @@
 -- The queries that are lowered.
 use Rattle.std.specs.Prelude.{ℕ, Bool, true, false, ◌&&◌, ◌==◌, List, length, Option, None, Some, is_none}
 use Rattle.std.specs.List.{list_all}
-use Rattle.query_meaning.specs.BinOp.{BinOp}
-use Rattle.query_meaning.specs.BinOp as op
-use Rattle.query_meaning.specs.Tree.{Ex, lit, path, no, bin, is, Outs, star, named, Query}
+use Rattle.tree_meaning.specs.declared.BinOp.{BinOp}
+use Rattle.tree_meaning.specs.declared.BinOp.TheVariants as op
+use Rattle.tree_meaning.specs.Tree.{Ex, lit, path, no, bin, is, Outs, star, named, Query}
 
 -- AND and OR
 abbrev pub is_lowered_op : BinOp → Bool
-is_lowered_op op.both = true
-is_lowered_op op.either = true
+is_lowered_op op.And = true
+is_lowered_op op.Or = true
 is_lowered_op o = false
 
 -- of literals, paths, NOT, AND, OR and IS alone

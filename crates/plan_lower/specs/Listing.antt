@@ -4,12 +4,12 @@ use Rattle.std.specs.Fmt.{decimal, signed_decimal}
 use Rattle.std.specs.List.{enumerate_from, flat_map}
 use Rattle.value_meaning.specs.Val.{Val}
 use Rattle.value_meaning.specs.Val as val
-use Rattle.query_meaning.specs.BinOp.{BinOp}
-use Rattle.query_meaning.specs.BinOp as op
-use Rattle.query_meaning.specs.IsWhat.{IsWhat}
-use Rattle.query_meaning.specs.IsWhat as what
-use Rattle.query_meaning.specs.AggName.{AggName}
-use Rattle.query_meaning.specs.AggName as aggs
+use Rattle.tree_meaning.specs.declared.BinOp.{BinOp}
+use Rattle.tree_meaning.specs.declared.BinOp.TheVariants as op
+use Rattle.tree_meaning.specs.declared.IsWhat.{IsWhat}
+use Rattle.tree_meaning.specs.declared.IsWhat.TheVariants as what
+use Rattle.tree_meaning.specs.declared.AggName.{AggName}
+use Rattle.tree_meaning.specs.declared.AggName.TheVariants as aggs
 use Rattle.print_meaning.specs.Pieces.{in_quotes}
 use Rattle.print_meaning.specs.Texts.{literal_text}
 use Rattle.program_meaning.specs.Instructions.{field, item, negation, asks, binary, Source, row, literal, of_one, of_two, Instr, all, holding, make}
@@ -24,37 +24,37 @@ abbrev pub value_name : ℕ → List ℕ
 value_name r = codes "r" ++ decimal r
 
 unfoldable pub op_text : BinOp → List ℕ
-op_text op.add = codes "add"
-op_text op.sub = codes "sub"
-op_text op.mul = codes "mul"
-op_text op.div = codes "div"
-op_text op.rem = codes "rem"
-op_text op.eq = codes "eq"
-op_text op.ne = codes "ne"
-op_text op.lt = codes "lt"
-op_text op.le = codes "le"
-op_text op.gt = codes "gt"
-op_text op.ge = codes "ge"
-op_text op.both = codes "and"
-op_text op.either = codes "or"
+op_text op.Add = codes "add"
+op_text op.Sub = codes "sub"
+op_text op.Mul = codes "mul"
+op_text op.Div = codes "div"
+op_text op.Rem = codes "rem"
+op_text op.Eq = codes "eq"
+op_text op.Ne = codes "ne"
+op_text op.Lt = codes "lt"
+op_text op.Le = codes "le"
+op_text op.Gt = codes "gt"
+op_text op.Ge = codes "ge"
+op_text op.And = codes "and"
+op_text op.Or = codes "or"
 
 unfoldable pub what_text : IsWhat → List ℕ
-what_text what.null = codes "null"
-what_text what.missing = codes "missing"
-what_text what.truth = codes "true"
-what_text what.falsehood = codes "false"
+what_text what.Null = codes "null"
+what_text what.Missing = codes "missing"
+what_text what.True = codes "true"
+what_text what.False = codes "false"
 
 unfoldable pub agg_text : AggName → List ℕ
-agg_text aggs.count_all = codes "countall"
-agg_text aggs.count = codes "count"
-agg_text aggs.sum = codes "sum"
-agg_text aggs.min = codes "min"
-agg_text aggs.max = codes "max"
-agg_text aggs.avg = codes "avg"
-agg_text aggs.earliest = codes "earliest"
-agg_text aggs.latest = codes "latest"
-agg_text aggs.bool_and = codes "booland"
-agg_text aggs.bool_or = codes "boolor"
+agg_text aggs.CountAll = codes "countall"
+agg_text aggs.Count = codes "count"
+agg_text aggs.Sum = codes "sum"
+agg_text aggs.Min = codes "min"
+agg_text aggs.Max = codes "max"
+agg_text aggs.Avg = codes "avg"
+agg_text aggs.Earliest = codes "earliest"
+agg_text aggs.Latest = codes "latest"
+agg_text aggs.BoolAnd = codes "booland"
+agg_text aggs.BoolOr = codes "boolor"
 
 -- a literal as in a query, but a number with `-` before its digits where it is negative
 unfoldable pub constant_text : Val → List ℕ

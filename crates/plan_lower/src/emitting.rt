@@ -1,18 +1,18 @@
 //! From expressions to instructions.
 ghost use Rattle.std.specs.Prelude.{◌≡◌, ◌<◌, IfOk, map, length, slice_get, Some, true};
-ghost use Rattle.query_meaning.specs.Tree.{lit, no, bin, is};
-ghost use Rattle.query_meaning.specs.WellFormed.{IsLiteral, IsFormed};
+ghost use Rattle.tree_meaning.specs.Tree.{lit, no, bin, is};
+ghost use Rattle.tree_meaning.specs.WellFormed.{IsLiteral, IsFormed};
 ghost use Rattle.eval_meaning.specs.Paths.{step_of, path_of};
 ghost use Rattle.program_meaning.specs.Programs.{mask_count, value_count};
 ghost use Rattle.snel_values.specs.View.{view as value_view};
-ghost use Rattle.sql_tree.specs.View.{view, step_view};
-ghost use Rattle.sql_tree.specs.Names.{op_view, what_view};
+ghost use Rattle.query_tree.specs.View.{view, step_view};
 ghost use Rattle.plan_lower.specs.Forms.{is_lowered_op, is_lowered_ex};
 ghost use Rattle.plan_lower.specs.Emitting.{Computes, Emits, Applies};
 
 use lane_ssa::{Builder, Instr};
-use snel_values::{BinOp, IsWhat, OutOfMemory, Step, Steps, Value};
-use sql_tree::{Expr, Operand};
+use snel_values::{OutOfMemory, Step, Steps, Value};
+use tree_meaning::{BinOp, IsWhat};
+use query_tree::{Expr, Operand};
 use std::alloc::Global;
 
 fn emit_literal(
@@ -105,7 +105,7 @@ fn emit_is(
     requires mask { mask < mask_count builder.old }
     requires lowered { is_lowered_ex of.now ≡ true }
     requires formed { IsFormed of.now }
-    ensures { IfOk result (λ r. Emits builder.old builder.new (is (what_view what) of.now) mask r) }
+    ensures { IfOk result (λ r. Emits builder.old builder.new (is what of.now) mask r) }
 {
     let of = emit_expr(alloc, builder, of.get(), mask)?;
     builder.put(Instr::Is { mask, what, of })
@@ -121,12 +121,12 @@ fn emit_bin(
     mask: u32,
 ) -> Result<u32, OutOfMemory>
     requires mask { mask < mask_count builder.old }
-    requires op { is_lowered_op (op_view op) ≡ true }
+    requires op { is_lowered_op op ≡ true }
     requires left_lowered { is_lowered_ex left.now ≡ true }
     requires right_lowered { is_lowered_ex right.now ≡ true }
     requires left_formed { IsFormed left.now }
     requires right_formed { IsFormed right.now }
-    ensures { IfOk result (λ r. Emits builder.old builder.new (bin (op_view op) left.now right.now) mask r) }
+    ensures { IfOk result (λ r. Emits builder.old builder.new (bin op left.now right.now) mask r) }
 {
     let a = emit_expr(alloc, builder, left.get(), mask)?;
     let b = emit_expr(alloc, builder, right.get(), mask)?;

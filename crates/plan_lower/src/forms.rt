@@ -1,17 +1,16 @@
 //! Which queries are lowered.
 ghost use Rattle.std.specs.Prelude.{◌≡◌, map};
 ghost use Rattle.std.specs.List.{list_all};
-ghost use Rattle.sql_tree.specs.View.{view};
-ghost use Rattle.sql_tree.specs.Names.{op_view};
-ghost use Rattle.sql_tree.specs.Queries.{outs_view, query_view};
+ghost use Rattle.query_tree.specs.View.{view};
+ghost use Rattle.query_tree.specs.Queries.{outs_view, query_view};
 ghost use Rattle.std.specs.Option.{option_map};
 ghost use Rattle.plan_lower.specs.Forms as forms;
 
-use snel_values::BinOp;
-use sql_tree::{Expr, Operand, OutItems, Outputs, Query};
+use tree_meaning::BinOp;
+use query_tree::{Expr, Operand, OutItems, Outputs, Query};
 
 fn is_lowered_op(op: BinOp) -> bool
-    ensures { result ≡ forms.is_lowered_op (op_view op) }
+    ensures { result ≡ forms.is_lowered_op op }
 {
     matches!(op, BinOp::And | BinOp::Or)
 }

@@ -5,7 +5,6 @@ ghost use Rattle.program_meaning.specs.Instructions.{literal, of_one, of_two, fi
 ghost use Rattle.program_meaning.specs.Programs.{IsConstant, IsProgram};
 ghost use Rattle.program_meaning.specs.Programs as programs;
 ghost use Rattle.snel_values.specs.View.{view};
-ghost use Rattle.sql_tree.specs.Names.{op_view, what_view};
 ghost use Rattle.lane_ssa.specs.Views.{instr_view};
 ghost use Rattle.plan_lower.specs.Listing as spec;
 ghost use Rattle.plan_lower.specs.Constants.{HasConstant};
@@ -15,7 +14,8 @@ use crate::pieces::{
 };
 use itoa::Buffer;
 use lane_ssa::Instr;
-use snel_values::{BinOp, Bytes, IsWhat, OutOfMemory, Text, Value};
+use snel_values::{Bytes, OutOfMemory, Text, Value};
+use tree_meaning::{BinOp, IsWhat};
 use sql_print::{put_literal, put_name};
 
 #[tactic(auto, unfolding(crate::specs::Listing::constant_text))]
@@ -83,7 +83,7 @@ fn put_simple(text: &mut Bytes, word: &str, mask: u32, of: u32) -> Result<(), Ou
 
 #[tactic(auto, unfolding(crate::specs::Listing::source_text))]
 fn put_is(text: &mut Bytes, mask: u32, what: IsWhat, of: u32) -> Result<(), OutOfMemory>
-    ensures { OnOk result (text.new ≡ text.old ++ spec.source_text mask (of_one (asks (what_view what)) of)) }
+    ensures { OnOk result (text.new ≡ text.old ++ spec.source_text mask (of_one (asks what) of)) }
 {
     put_under(text, "is", mask)?;
     put(text, " ")?;
@@ -93,7 +93,7 @@ fn put_is(text: &mut Bytes, mask: u32, what: IsWhat, of: u32) -> Result<(), OutO
 
 #[tactic(auto, unfolding(crate::specs::Listing::source_text))]
 fn put_bin(text: &mut Bytes, mask: u32, op: BinOp, a: u32, b: u32) -> Result<(), OutOfMemory>
-    ensures { OnOk result (text.new ≡ text.old ++ spec.source_text mask (of_two (binary (op_view op)) a b)) }
+    ensures { OnOk result (text.new ≡ text.old ++ spec.source_text mask (of_two (binary op) a b)) }
 {
     put_under(text, op_word(op), mask)?;
     put_operand(text, a)?;

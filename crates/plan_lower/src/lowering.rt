@@ -2,15 +2,15 @@
 ghost use Rattle.std.specs.Prelude.{◌≡◌, ◌<◌, IfOk, IfSome, All, length, slice_get, Some, true};
 ghost use Rattle.std.specs.Option.{option_map};
 ghost use Rattle.std.specs.List.{list_all};
-ghost use Rattle.query_meaning.specs.WellFormed.{IsFormed, IsOutput, AreOutputs, IsWellFormed};
+ghost use Rattle.tree_meaning.specs.WellFormed.{IsFormed, IsOutput, AreOutputs, IsWellFormed};
 ghost use Rattle.check_meaning.specs.Names as named;
 ghost use Rattle.check_meaning.specs.Places.{output_exs};
 ghost use Rattle.program_meaning.specs.Programs.{mask_count};
 ghost use Rattle.program_meaning.specs.Simulation.{Simulates};
 ghost use Rattle.program_meaning.specs.Simulation as simulation;
-ghost use Rattle.sql_tree.specs.View.{view};
-ghost use Rattle.sql_tree.specs.Parts.{item_view};
-ghost use Rattle.sql_tree.specs.Queries.{outs_view};
+ghost use Rattle.query_tree.specs.View.{view};
+ghost use Rattle.query_tree.specs.Parts.{item_view};
+ghost use Rattle.query_tree.specs.Queries.{outs_view};
 ghost use Rattle.plan_lower.specs.Forms.{is_lowered_output, are_lowered_outs, is_lowered_filter, is_lowered};
 ghost use Rattle.plan_lower.specs.Emitting.{Emits, EmitsAll, Keeps};
 ghost use Rattle.plan_lower.specs.Ends.{exs_of, names_of, registers_of, plain_ends};
@@ -20,7 +20,7 @@ use crate::emitting::emit_expr;
 use lane_ssa::{Builder, EndAggs, EndOut, EndOuts, Ends, Instr, Job, Registers};
 use query_check::{Checked, Names};
 use snel_values::{OutOfMemory, Text};
-use sql_tree::{Expr, Item, OutItems, Outputs};
+use query_tree::{Expr, Item, OutItems, Outputs};
 use std::alloc::Global;
 
 /// Adds the instructions of WHERE, if it stands; the mask of the lanes that pass.

@@ -1,12 +1,12 @@
 //! Pieces of the text of a listing. Each is added at the end; for want of memory some of it may stand there.
 ghost use Rattle.std.specs.Prelude.{◌≡◌, ◌++◌, OnOk};
 ghost use Rattle.std.specs.Fmt.{decimal};
-ghost use Rattle.sql_tree.specs.Names.{op_view, what_view, agg_view};
 ghost use Rattle.plan_lower.specs.Listing as spec;
 
-use agg_laws::AggName;
+use tree_meaning::AggName;
 use itoa::Buffer;
-use snel_values::{BinOp, Bytes, IsWhat, OutOfMemory};
+use snel_values::{Bytes, OutOfMemory};
+use tree_meaning::{BinOp, IsWhat};
 
 pub(crate) fn put(text: &mut Bytes, piece: &str) -> Result<(), OutOfMemory>
     ensures { OnOk result (text.new ≡ text.old ++ piece.now) }
@@ -56,7 +56,7 @@ pub(crate) fn put_under(text: &mut Bytes, word: &str, mask: u32) -> Result<(), O
 
 #[tactic(auto, unfolding(crate::specs::Listing::op_text))]
 pub(crate) fn op_word(op: BinOp) -> &'static str
-    ensures { result.now ≡ spec.op_text (op_view op) }
+    ensures { result.now ≡ spec.op_text op }
 {
     match op {
         BinOp::Add => "add",
@@ -77,7 +77,7 @@ pub(crate) fn op_word(op: BinOp) -> &'static str
 
 #[tactic(auto, unfolding(crate::specs::Listing::what_text))]
 pub(crate) fn what_word(what: IsWhat) -> &'static str
-    ensures { result.now ≡ spec.what_text (what_view what) }
+    ensures { result.now ≡ spec.what_text what }
 {
     match what {
         IsWhat::Null => "null",
@@ -89,7 +89,7 @@ pub(crate) fn what_word(what: IsWhat) -> &'static str
 
 #[tactic(auto, unfolding(crate::specs::Listing::agg_text))]
 pub(crate) fn agg_word(name: AggName) -> &'static str
-    ensures { result.now ≡ spec.agg_text (agg_view name) }
+    ensures { result.now ≡ spec.agg_text name }
 {
     match name {
         AggName::CountAll => "countall",

@@ -1,11 +1,11 @@
 -- The printed text of a query is read as the query.
 use Rattle.std.proofs.Common.{◌≡◌, List, [], None, Ok, Result, refl, ap}
 use Rattle.std.specs.Option.{option_map}
-use Rattle.query_meaning.specs.Tree.{Query}
+use Rattle.tree_meaning.specs.Tree.{Query}
 use Rattle.query_meaning.specs.Lexing.{Span, spans_of}
 use Rattle.query_meaning.specs.Tokens.{tokens_in}
 use Rattle.query_meaning.specs.Grammar.{IsQuery}
-use Rattle.query_meaning.specs.WellFormed.{IsWellFormed}
+use Rattle.tree_meaning.specs.WellFormed.{IsWellFormed}
 use Rattle.query_meaning.specs.Faults.{refused_at, Verdict, ComesTo, by_length, by_token, by_count, by_word, by_depth, by_grammar, a_query}
 use Rattle.query_meaning.proofs.FullQuery.{one_query, query-full}
 use Rattle.print_meaning.specs.Pieces.{spelled, tokens_of}

@@ -2,10 +2,10 @@
 use Rattle.std.proofs.Common.{◌≡◌, Some, refl}
 use Rattle.query_meaning.specs.declared.FunctionWord.{FunctionWord}
 use Rattle.query_meaning.specs.declared.FunctionWord.TheVariants as f
-use Rattle.query_meaning.specs.CastTo.{CastTo}
-use Rattle.query_meaning.specs.CastTo as to
-use Rattle.query_meaning.specs.Part.{Part}
-use Rattle.query_meaning.specs.Part as part
+use Rattle.tree_meaning.specs.declared.CastTo.{CastTo}
+use Rattle.tree_meaning.specs.declared.CastTo.TheVariants as to
+use Rattle.tree_meaning.specs.declared.Part.{Part}
+use Rattle.tree_meaning.specs.declared.Part.TheVariants as part
 use Rattle.query_meaning.specs.Words.{function_word, function_text, part_word, part_text, cast_word, cast_text}
 
 pub function-known : (w : FunctionWord) → function_word (function_text w) ≡ Some w
@@ -33,17 +33,17 @@ function-known f.BoolOr = refl
 
 pub part-known : (p : Part) → part_word (part_text p) ≡ Some p
 unfolding part_word
-part-known part.microsecond = refl
-part-known part.second = refl
-part-known part.minute = refl
-part-known part.hour = refl
-part-known part.day = refl
-part-known part.week = refl
-part-known part.month = refl
-part-known part.quarter = refl
-part-known part.year = refl
+part-known part.Microsecond = refl
+part-known part.Second = refl
+part-known part.Minute = refl
+part-known part.Hour = refl
+part-known part.Day = refl
+part-known part.Week = refl
+part-known part.Month = refl
+part-known part.Quarter = refl
+part-known part.Year = refl
 
 pub cast-known : (c : CastTo) → cast_word (cast_text c) ≡ Some c
 unfolding cast_word
-cast-known to.integer = refl
-cast-known to.boolean = refl
+cast-known to.Integer = refl
+cast-known to.Boolean = refl

@@ -6,7 +6,8 @@ use Rattle.std.proofs.lemmas.Bool.Decides.{nat_tests}
 use Rattle.std.proofs.lemmas.Fmt.{digits_decimal, digits_value-decimal, decimal_nonempty}
 use Rattle.std.proofs.lemmas.Str.Parse.{IsNumeralModel, numerals_by_fold}
 use Rattle.query_meaning.specs.declared.TokenKind.TheVariants as k
-use Rattle.query_meaning.specs.Lexing.{is_space, starts_word, is_digit, decimal_on, number_of, is_ended, begins_with, number_cut, cut_at}
+use Rattle.query_meaning.specs.Lexing.{is_space, starts_word, is_digit, number_of, is_ended, begins_with, number_cut, cut_at}
+use Rattle.tree_meaning.specs.Decimals.{decimal_on}
 use Rattle.query_meaning.specs.Tokens.{num, token_of}
 use Rattle.print_meaning.specs.Pieces.{spelling}
 use Rattle.print_meaning.proofs.Lexed.{Lexes}

@@ -5,10 +5,10 @@ use Rattle.query_meaning.specs.declared.Mark.{Mark}
 use Rattle.query_meaning.specs.declared.Mark.TheVariants as m
 use Rattle.query_meaning.specs.declared.FunctionWord.{FunctionWord}
 use Rattle.query_meaning.specs.declared.FunctionWord.TheVariants as f
-use Rattle.query_meaning.specs.CastTo.{CastTo}
-use Rattle.query_meaning.specs.CastTo as to
-use Rattle.query_meaning.specs.Part.{Part}
-use Rattle.query_meaning.specs.Part as part
+use Rattle.tree_meaning.specs.declared.CastTo.{CastTo}
+use Rattle.tree_meaning.specs.declared.CastTo.TheVariants as to
+use Rattle.tree_meaning.specs.declared.Part.{Part}
+use Rattle.tree_meaning.specs.declared.Part.TheVariants as part
 use Rattle.query_meaning.specs.Words.{reserved_word, is_refused, function_text, part_text, cast_text}
 use Rattle.query_meaning.specs.Lexing.{is_space, starts_word, is_word_byte, run, cut_at}
 use Rattle.query_meaning.specs.Tokens.{Tok, mark, word, token_of}
@@ -146,17 +146,17 @@ function_lexes f.BoolOr rest s = word_lexes (word (function_text f.BoolOr)) 66 (
 
 pub part_lexes : (p : Part) (rest : List ℕ) → first is_word_byte rest ≡ false → Lexes (word (part_text p)) rest
 unfolding spelling token_of reserved_word is_refused
-part_lexes part.microsecond rest s = word_lexes (word (part_text part.microsecond)) 77 (73 ∷ 67 ∷ 82 ∷ 79 ∷ 83 ∷ 69 ∷ 67 ∷ 79 ∷ 78 ∷ 68 ∷ []) rest refl (record { starts = refl; goes_on = refl; visible = refl; means = refl; allowed = refl }) s
-part_lexes part.second rest s = word_lexes (word (part_text part.second)) 83 (69 ∷ 67 ∷ 79 ∷ 78 ∷ 68 ∷ []) rest refl (record { starts = refl; goes_on = refl; visible = refl; means = refl; allowed = refl }) s
-part_lexes part.minute rest s = word_lexes (word (part_text part.minute)) 77 (73 ∷ 78 ∷ 85 ∷ 84 ∷ 69 ∷ []) rest refl (record { starts = refl; goes_on = refl; visible = refl; means = refl; allowed = refl }) s
-part_lexes part.hour rest s = word_lexes (word (part_text part.hour)) 72 (79 ∷ 85 ∷ 82 ∷ []) rest refl (record { starts = refl; goes_on = refl; visible = refl; means = refl; allowed = refl }) s
-part_lexes part.day rest s = word_lexes (word (part_text part.day)) 68 (65 ∷ 89 ∷ []) rest refl (record { starts = refl; goes_on = refl; visible = refl; means = refl; allowed = refl }) s
-part_lexes part.week rest s = word_lexes (word (part_text part.week)) 87 (69 ∷ 69 ∷ 75 ∷ []) rest refl (record { starts = refl; goes_on = refl; visible = refl; means = refl; allowed = refl }) s
-part_lexes part.month rest s = word_lexes (word (part_text part.month)) 77 (79 ∷ 78 ∷ 84 ∷ 72 ∷ []) rest refl (record { starts = refl; goes_on = refl; visible = refl; means = refl; allowed = refl }) s
-part_lexes part.quarter rest s = word_lexes (word (part_text part.quarter)) 81 (85 ∷ 65 ∷ 82 ∷ 84 ∷ 69 ∷ 82 ∷ []) rest refl (record { starts = refl; goes_on = refl; visible = refl; means = refl; allowed = refl }) s
-part_lexes part.year rest s = word_lexes (word (part_text part.year)) 89 (69 ∷ 65 ∷ 82 ∷ []) rest refl (record { starts = refl; goes_on = refl; visible = refl; means = refl; allowed = refl }) s
+part_lexes part.Microsecond rest s = word_lexes (word (part_text part.Microsecond)) 77 (73 ∷ 67 ∷ 82 ∷ 79 ∷ 83 ∷ 69 ∷ 67 ∷ 79 ∷ 78 ∷ 68 ∷ []) rest refl (record { starts = refl; goes_on = refl; visible = refl; means = refl; allowed = refl }) s
+part_lexes part.Second rest s = word_lexes (word (part_text part.Second)) 83 (69 ∷ 67 ∷ 79 ∷ 78 ∷ 68 ∷ []) rest refl (record { starts = refl; goes_on = refl; visible = refl; means = refl; allowed = refl }) s
+part_lexes part.Minute rest s = word_lexes (word (part_text part.Minute)) 77 (73 ∷ 78 ∷ 85 ∷ 84 ∷ 69 ∷ []) rest refl (record { starts = refl; goes_on = refl; visible = refl; means = refl; allowed = refl }) s
+part_lexes part.Hour rest s = word_lexes (word (part_text part.Hour)) 72 (79 ∷ 85 ∷ 82 ∷ []) rest refl (record { starts = refl; goes_on = refl; visible = refl; means = refl; allowed = refl }) s
+part_lexes part.Day rest s = word_lexes (word (part_text part.Day)) 68 (65 ∷ 89 ∷ []) rest refl (record { starts = refl; goes_on = refl; visible = refl; means = refl; allowed = refl }) s
+part_lexes part.Week rest s = word_lexes (word (part_text part.Week)) 87 (69 ∷ 69 ∷ 75 ∷ []) rest refl (record { starts = refl; goes_on = refl; visible = refl; means = refl; allowed = refl }) s
+part_lexes part.Month rest s = word_lexes (word (part_text part.Month)) 77 (79 ∷ 78 ∷ 84 ∷ 72 ∷ []) rest refl (record { starts = refl; goes_on = refl; visible = refl; means = refl; allowed = refl }) s
+part_lexes part.Quarter rest s = word_lexes (word (part_text part.Quarter)) 81 (85 ∷ 65 ∷ 82 ∷ 84 ∷ 69 ∷ 82 ∷ []) rest refl (record { starts = refl; goes_on = refl; visible = refl; means = refl; allowed = refl }) s
+part_lexes part.Year rest s = word_lexes (word (part_text part.Year)) 89 (69 ∷ 65 ∷ 82 ∷ []) rest refl (record { starts = refl; goes_on = refl; visible = refl; means = refl; allowed = refl }) s
 
 pub cast_lexes : (c : CastTo) (rest : List ℕ) → first is_word_byte rest ≡ false → Lexes (word (cast_text c)) rest
 unfolding spelling token_of reserved_word is_refused
-cast_lexes to.integer rest s = word_lexes (word (cast_text to.integer)) 73 (78 ∷ 84 ∷ 69 ∷ 71 ∷ 69 ∷ 82 ∷ []) rest refl (record { starts = refl; goes_on = refl; visible = refl; means = refl; allowed = refl }) s
-cast_lexes to.boolean rest s = word_lexes (word (cast_text to.boolean)) 66 (79 ∷ 79 ∷ 76 ∷ 69 ∷ 65 ∷ 78 ∷ []) rest refl (record { starts = refl; goes_on = refl; visible = refl; means = refl; allowed = refl }) s
+cast_lexes to.Integer rest s = word_lexes (word (cast_text to.Integer)) 73 (78 ∷ 84 ∷ 69 ∷ 71 ∷ 69 ∷ 82 ∷ []) rest refl (record { starts = refl; goes_on = refl; visible = refl; means = refl; allowed = refl }) s
+cast_lexes to.Boolean rest s = word_lexes (word (cast_text to.Boolean)) 66 (79 ∷ 79 ∷ 76 ∷ 69 ∷ 65 ∷ 78 ∷ []) rest refl (record { starts = refl; goes_on = refl; visible = refl; means = refl; allowed = refl }) s

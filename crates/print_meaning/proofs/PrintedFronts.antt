@@ -3,8 +3,8 @@ use Rattle.std.proofs.Common.{◌≡◌, ℕ, List, [], ◌∷◌, ◌++◌, ref
 use Rattle.value_meaning.specs.Val as val
 use Rattle.query_meaning.specs.declared.Mark.TheVariants as m
 use Rattle.query_meaning.specs.declared.FunctionWord.TheVariants as f
-use Rattle.query_meaning.specs.How as how
-use Rattle.query_meaning.specs.Tree.{Step, name, at, Ex, Exs, Arms, lit, path, neg, no, bin, is, member, between, matching, choice, cast, call, trunc, extract, shift, agg_of_rows, agg, no_exs, ex, no_arms, arm}
+use Rattle.tree_meaning.specs.declared.How.TheVariants as how
+use Rattle.tree_meaning.specs.Tree.{Step, name, at, Ex, Exs, Arms, lit, path, neg, no, bin, is, member, between, matching, choice, cast, call, trunc, extract, shift, agg_of_rows, agg, no_exs, ex, no_arms, arm}
 use Rattle.query_meaning.specs.Words.{cast_text}
 use Rattle.query_meaning.specs.Tokens.{word, string, num}
 use Rattle.print_meaning.specs.Pieces.{Pieces, space, token, spelling, spelled}
@@ -52,11 +52,11 @@ module _ (row : List ℕ) where
         ap (λ (z : Pieces). key m.Open ∷ put row e (put_between m.Between (put row a (put_between m.And z)))) (put_front b (key m.Close ∷ s) t)
         ∙ ap (λ (z : Pieces). key m.Open ∷ put row e (put_between m.Between z)) (put_front a (put_between m.And last) t)
         ∙ ap (λ (z : Pieces). key m.Open ∷ z) (put_front e (put_between m.Between middle) t)
-    put_front (matching how.like e p) s t = ap (λ (z : Pieces). key m.Open ∷ z) (put_front e (put_between m.Like (token (string p) ∷ key m.Close ∷ s)) t)
-    put_front (matching how.ilike e p) s t = ap (λ (z : Pieces). key m.Open ∷ z) (put_front e (put_between m.ILike (token (string p) ∷ key m.Close ∷ s)) t)
-    put_front (matching how.starts e p) s t = ap (put_head f.StartsWith) (put_front e (put_comma (token (string p) ∷ key m.Close ∷ s)) t)
-    put_front (matching how.ends e p) s t = ap (put_head f.EndsWith) (put_front e (put_comma (token (string p) ∷ key m.Close ∷ s)) t)
-    put_front (matching how.contains e p) s t = ap (put_head f.Contains) (put_front e (put_comma (token (string p) ∷ key m.Close ∷ s)) t)
+    put_front (matching how.Like e p) s t = ap (λ (z : Pieces). key m.Open ∷ z) (put_front e (put_between m.Like (token (string p) ∷ key m.Close ∷ s)) t)
+    put_front (matching how.ILike e p) s t = ap (λ (z : Pieces). key m.Open ∷ z) (put_front e (put_between m.ILike (token (string p) ∷ key m.Close ∷ s)) t)
+    put_front (matching how.Starts e p) s t = ap (put_head f.StartsWith) (put_front e (put_comma (token (string p) ∷ key m.Close ∷ s)) t)
+    put_front (matching how.Ends e p) s t = ap (put_head f.EndsWith) (put_front e (put_comma (token (string p) ∷ key m.Close ∷ s)) t)
+    put_front (matching how.Contains e p) s t = ap (put_head f.Contains) (put_front e (put_comma (token (string p) ∷ key m.Close ∷ s)) t)
     put_front (choice r e) s t =
         let last = put row e (space ∷ key m.End ∷ key m.Close ∷ s) in
         ap (λ (z : Pieces). key m.Open ∷ key m.Case ∷ put_arms row r (put_between m.Else z)) (put_front e (space ∷ key m.End ∷ key m.Close ∷ s) t)

@@ -3,7 +3,7 @@ use Rattle.std.proofs.Common.{◌≡◌, ℕ, zero, suc, ◌+◌, ◌≤◌, Lis
 use Rattle.std.specs.Prelude.{codes, slice_get, decimal, ◌==◌}
 use Rattle.query_meaning.specs.declared.Mark.{Mark}
 use Rattle.query_meaning.specs.declared.Mark.TheVariants as m
-use Rattle.query_meaning.specs.Tree.{Step, name, at, Ex, exs, arms, Outs, star, named, Query}
+use Rattle.tree_meaning.specs.Tree.{Step, name, at, Ex, exs, arms, Outs, star, named, Query}
 use Rattle.query_meaning.specs.Tokens.{num}
 use Rattle.query_meaning.specs.RowName.{row_name}
 use Rattle.print_meaning.specs.Pieces.{Pieces, token, doubled, in_quotes, spelling, spelled}

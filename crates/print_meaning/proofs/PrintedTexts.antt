@@ -3,15 +3,15 @@ use Rattle.std.proofs.Common.{◌≡◌, ℕ, List, [], ◌∷◌, ◌++◌, ref
 use Rattle.std.specs.Prelude.{codes}
 use Rattle.value_meaning.specs.Val as val
 use Rattle.query_meaning.specs.declared.Mark.TheVariants as m
-use Rattle.query_meaning.specs.BinOp.{BinOp}
-use Rattle.query_meaning.specs.IsWhat.{IsWhat}
-use Rattle.query_meaning.specs.How.{How}
-use Rattle.query_meaning.specs.How as how
-use Rattle.query_meaning.specs.CastTo.{CastTo}
-use Rattle.query_meaning.specs.Func.{Func}
-use Rattle.query_meaning.specs.Part.{Part}
-use Rattle.query_meaning.specs.AggName.{AggName}
-use Rattle.query_meaning.specs.Tree.{Step, Ex, lit, path, neg, no, bin, is, member, between, matching, choice, cast, call, trunc, extract, shift, agg_of_rows, agg, exs, arms}
+use Rattle.tree_meaning.specs.declared.BinOp.{BinOp}
+use Rattle.tree_meaning.specs.declared.IsWhat.{IsWhat}
+use Rattle.tree_meaning.specs.declared.How.{How}
+use Rattle.tree_meaning.specs.declared.How.TheVariants as how
+use Rattle.tree_meaning.specs.declared.CastTo.{CastTo}
+use Rattle.tree_meaning.specs.declared.Func.{Func}
+use Rattle.tree_meaning.specs.declared.Part.{Part}
+use Rattle.tree_meaning.specs.declared.AggName.{AggName}
+use Rattle.tree_meaning.specs.Tree.{Step, Ex, lit, path, neg, no, bin, is, member, between, matching, choice, cast, call, trunc, extract, shift, agg_of_rows, agg, exs, arms}
 use Rattle.query_meaning.specs.Words.{mark_text, function_text, part_text, cast_text}
 use Rattle.query_meaning.specs.Tokens.{word, string}
 use Rattle.print_meaning.specs.Pieces.{Pieces, space, token, in_quotes, spelling, spelled}
@@ -75,26 +75,26 @@ module _ (row : List ℕ) where
 
   -- how a match is written before what is matched, and between that and the text
   abbrev pub match_before : How → List ℕ
-  match_before how.like = codes "("
-  match_before how.ilike = codes "("
-  match_before how.starts = codes "STARTS_WITH("
-  match_before how.ends = codes "ENDS_WITH("
-  match_before how.contains = codes "CONTAINS("
+  match_before how.Like = codes "("
+  match_before how.ILike = codes "("
+  match_before how.Starts = codes "STARTS_WITH("
+  match_before how.Ends = codes "ENDS_WITH("
+  match_before how.Contains = codes "CONTAINS("
 
   abbrev pub match_between : How → List ℕ
-  match_between how.like = codes " LIKE "
-  match_between how.ilike = codes " ILIKE "
-  match_between how.starts = codes ", "
-  match_between how.ends = codes ", "
-  match_between how.contains = codes ", "
+  match_between how.Like = codes " LIKE "
+  match_between how.ILike = codes " ILIKE "
+  match_between how.Starts = codes ", "
+  match_between how.Ends = codes ", "
+  match_between how.Contains = codes ", "
 
   pub match_text : (h : How) (e : Ex) (p : List ℕ) → text row (matching h e p) ≡ (match_before h ++ (text row e ++ match_between h)) ++ (in_quotes 39 p ++ codes ")")
   unfolding spelling
-  match_text how.like e p = text_is row (matching how.like e p) ∙ ap (λ (z : List ℕ). codes "(" ++ z) (ex_text row e (put_between m.Like (token (string p) ∷ key m.Close ∷ [])) ∙ (simp append_assoc))
-  match_text how.ilike e p = text_is row (matching how.ilike e p) ∙ ap (λ (z : List ℕ). codes "(" ++ z) (ex_text row e (put_between m.ILike (token (string p) ∷ key m.Close ∷ [])) ∙ (simp append_assoc))
-  match_text how.starts e p = text_is row (matching how.starts e p) ∙ ap (λ (z : List ℕ). codes "STARTS_WITH(" ++ z) (ex_text row e (put_comma (token (string p) ∷ key m.Close ∷ [])) ∙ (simp append_assoc))
-  match_text how.ends e p = text_is row (matching how.ends e p) ∙ ap (λ (z : List ℕ). codes "ENDS_WITH(" ++ z) (ex_text row e (put_comma (token (string p) ∷ key m.Close ∷ [])) ∙ (simp append_assoc))
-  match_text how.contains e p = text_is row (matching how.contains e p) ∙ ap (λ (z : List ℕ). codes "CONTAINS(" ++ z) (ex_text row e (put_comma (token (string p) ∷ key m.Close ∷ [])) ∙ (simp append_assoc))
+  match_text how.Like e p = text_is row (matching how.Like e p) ∙ ap (λ (z : List ℕ). codes "(" ++ z) (ex_text row e (put_between m.Like (token (string p) ∷ key m.Close ∷ [])) ∙ (simp append_assoc))
+  match_text how.ILike e p = text_is row (matching how.ILike e p) ∙ ap (λ (z : List ℕ). codes "(" ++ z) (ex_text row e (put_between m.ILike (token (string p) ∷ key m.Close ∷ [])) ∙ (simp append_assoc))
+  match_text how.Starts e p = text_is row (matching how.Starts e p) ∙ ap (λ (z : List ℕ). codes "STARTS_WITH(" ++ z) (ex_text row e (put_comma (token (string p) ∷ key m.Close ∷ [])) ∙ (simp append_assoc))
+  match_text how.Ends e p = text_is row (matching how.Ends e p) ∙ ap (λ (z : List ℕ). codes "ENDS_WITH(" ++ z) (ex_text row e (put_comma (token (string p) ∷ key m.Close ∷ [])) ∙ (simp append_assoc))
+  match_text how.Contains e p = text_is row (matching how.Contains e p) ∙ ap (λ (z : List ℕ). codes "CONTAINS(" ++ z) (ex_text row e (put_comma (token (string p) ∷ key m.Close ∷ [])) ∙ (simp append_assoc))
 
   pub case_text : (xs : List (Ex × Ex)) (e : Ex) → text row (choice (arms xs) e) ≡ codes "(CASE" ++ (arms_text row xs ++ (codes " ELSE " ++ (text row e ++ codes " END)")))
   unfolding spelling

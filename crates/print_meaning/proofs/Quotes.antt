@@ -7,7 +7,7 @@ use Rattle.std.proofs.lemmas.Bool.Decides.{nat_tests}
 use Rattle.query_meaning.specs.declared.TokenKind.TheVariants as k
 use Rattle.query_meaning.specs.Lexing.{begins_with, closing, or_one, name_cut, string_cut, cut_at}
 use Rattle.query_meaning.specs.Tokens.{quoted, string, inner, undoubled, token_of}
-use Rattle.query_meaning.specs.WellFormed.{IsName}
+use Rattle.tree_meaning.specs.WellFormed.{IsName}
 use Rattle.print_meaning.specs.Pieces.{doubled, in_quotes, spelling}
 use Rattle.print_meaning.proofs.Lexed.{Lexes}
 

@@ -6,9 +6,9 @@ use Rattle.std.specs.Str.{bytes_eq}
 use Rattle.std.specs.Prelude.{suc}
 use Rattle.std.proofs.Common.{arith}
 use Rattle.std.proofs.lemmas.Cmp.{nat_list_eq_equiv}
-use Rattle.query_meaning.specs.Tree.{Step, name, at, Ex, Exs, Arms, lit, path, neg, no, bin, is, member, between, matching, choice, cast, call, trunc, extract, shift, agg_of_rows, agg, no_exs, ex, no_arms, arm, Outs, star, named}
+use Rattle.tree_meaning.specs.Tree.{Step, name, at, Ex, Exs, Arms, lit, path, neg, no, bin, is, member, between, matching, choice, cast, call, trunc, extract, shift, agg_of_rows, agg, no_exs, ex, no_arms, arm, Outs, star, named}
 use Rattle.query_meaning.specs.RowName.{short_path, short, short_exs, short_arms, short_outs}
-use Rattle.query_meaning.specs.WellFormed.{IsPath, IsFormed, AreFormed, ArmsAreFormed, IsOutput, AreOutputs, IsKey}
+use Rattle.tree_meaning.specs.WellFormed.{IsPath, IsFormed, AreFormed, ArmsAreFormed, IsOutput, AreOutputs, IsKey}
 
 abbrev mutual
   pub long : List ℕ → Ex → Ex

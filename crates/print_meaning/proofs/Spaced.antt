@@ -7,15 +7,15 @@ use Rattle.query_meaning.specs.declared.Mark.{Mark}
 use Rattle.query_meaning.specs.declared.Mark.TheVariants as m
 use Rattle.query_meaning.specs.declared.FunctionWord.{FunctionWord}
 use Rattle.query_meaning.specs.declared.FunctionWord.TheVariants as f
-use Rattle.query_meaning.specs.BinOp as op
-use Rattle.query_meaning.specs.IsWhat as what
-use Rattle.query_meaning.specs.How as how
-use Rattle.query_meaning.specs.Part.{Part}
-use Rattle.query_meaning.specs.Tree.{Step, name, at, Ex, Exs, Arms, lit, path, neg, no, bin, is, member, between, matching, choice, cast, call, trunc, extract, shift, agg_of_rows, agg, no_exs, ex, no_arms, arm, Outs, star, named, Query}
+use Rattle.tree_meaning.specs.declared.BinOp.TheVariants as op
+use Rattle.tree_meaning.specs.declared.IsWhat.TheVariants as what
+use Rattle.tree_meaning.specs.declared.How.TheVariants as how
+use Rattle.tree_meaning.specs.declared.Part.{Part}
+use Rattle.tree_meaning.specs.Tree.{Step, name, at, Ex, Exs, Arms, lit, path, neg, no, bin, is, member, between, matching, choice, cast, call, trunc, extract, shift, agg_of_rows, agg, no_exs, ex, no_arms, arm, Outs, star, named, Query}
 use Rattle.query_meaning.specs.Lexing.{is_digit, is_word_byte, begins_with, is_ended}
 use Rattle.query_meaning.specs.Tokens.{mark, quoted, string, num}
 use Rattle.query_meaning.specs.RowName.{row_name}
-use Rattle.query_meaning.specs.WellFormed.{IsName, IsLiteral, IsPath, IsStep, IsFormed, AreFormed, ArmsAreFormed, IsOutput, AreOutputs, IsKey, IsCount, IsWellFormed}
+use Rattle.tree_meaning.specs.WellFormed.{IsName, IsLiteral, IsPath, IsStep, IsFormed, AreFormed, ArmsAreFormed, IsOutput, AreOutputs, IsKey, IsCount, IsWellFormed}
 use Rattle.print_meaning.specs.Pieces.{Pieces, space, token, spelling, spelled}
 use Rattle.print_meaning.specs.Print.{key, title, op_mark, what_mark, func_word, agg_word, put_head, put_part, put_comma, put_between, put_literal, put_steps, put, put_exs, put_other_exs, put_arms, put_others, put_list, put_alias, put_item, put_outs, put_filter, put_groups, put_direction, put_key, put_order, put_count, skipped, printed}
 use Rattle.print_meaning.proofs.Rows.{all_first, all_rest}
@@ -91,25 +91,25 @@ last_number : (n : ℕ) → n < 2 ^ 63 → {bs : List ℕ} → Stops bs → Lexe
 last_number n h {bs} s = number_lexes n bs h (stops_digit s) (stops_number s)
 
 op_spaced : (o : op.BinOp) (bs : List ℕ) → Lexes (mark (op_mark o)) (32 ∷ bs)
-op_spaced op.add bs = plus_lexes (32 ∷ bs)
-op_spaced op.sub bs = minus_lexes (32 ∷ bs) refl
-op_spaced op.mul bs = star_lexes (32 ∷ bs)
-op_spaced op.div bs = slash_lexes (32 ∷ bs)
-op_spaced op.rem bs = percent_lexes (32 ∷ bs)
-op_spaced op.eq bs = equal_lexes (32 ∷ bs)
-op_spaced op.ne bs = unequal_lexes (32 ∷ bs)
-op_spaced op.lt bs = less_lexes bs
-op_spaced op.le bs = at_most_lexes (32 ∷ bs)
-op_spaced op.gt bs = greater_lexes bs
-op_spaced op.ge bs = at_least_lexes (32 ∷ bs)
-op_spaced op.both bs = spaced_word m.And refl bs
-op_spaced op.either bs = spaced_word m.Or refl bs
+op_spaced op.Add bs = plus_lexes (32 ∷ bs)
+op_spaced op.Sub bs = minus_lexes (32 ∷ bs) refl
+op_spaced op.Mul bs = star_lexes (32 ∷ bs)
+op_spaced op.Div bs = slash_lexes (32 ∷ bs)
+op_spaced op.Rem bs = percent_lexes (32 ∷ bs)
+op_spaced op.Eq bs = equal_lexes (32 ∷ bs)
+op_spaced op.Ne bs = unequal_lexes (32 ∷ bs)
+op_spaced op.Lt bs = less_lexes bs
+op_spaced op.Le bs = at_most_lexes (32 ∷ bs)
+op_spaced op.Gt bs = greater_lexes bs
+op_spaced op.Ge bs = at_least_lexes (32 ∷ bs)
+op_spaced op.And bs = spaced_word m.And refl bs
+op_spaced op.Or bs = spaced_word m.Or refl bs
 
 what_spaced : (w : what.IsWhat) {bs : List ℕ} → Stops bs → Lexes (mark (what_mark w)) bs
-what_spaced what.null s = last_word m.Null refl s
-what_spaced what.missing s = last_word m.Missing refl s
-what_spaced what.truth s = last_word m.True refl s
-what_spaced what.falsehood s = last_word m.False refl s
+what_spaced what.Null s = last_word m.Null refl s
+what_spaced what.Missing s = last_word m.Missing refl s
+what_spaced what.True s = last_word m.True refl s
+what_spaced what.False s = last_word m.False refl s
 
 head_spaced : (w : FunctionWord) (s : Pieces) → AreSpaced s → AreSpaced (put_head w s)
 head_spaced w s h = (function_lexes w (spelled (key m.Open ∷ s)) (before_open s), (open_lexes (spelled s), h))
@@ -212,11 +212,11 @@ no_minus row (bin o a b) h s = refl
 no_minus row (is w e) h s = refl
 no_minus row (member e es) h s = refl
 no_minus row (between e a b) h s = refl
-no_minus row (matching how.like e p) h s = refl
-no_minus row (matching how.ilike e p) h s = refl
-no_minus row (matching how.starts e p) h s = refl
-no_minus row (matching how.ends e p) h s = refl
-no_minus row (matching how.contains e p) h s = refl
+no_minus row (matching how.Like e p) h s = refl
+no_minus row (matching how.ILike e p) h s = refl
+no_minus row (matching how.Starts e p) h s = refl
+no_minus row (matching how.Ends e p) h s = refl
+no_minus row (matching how.Contains e p) h s = refl
 no_minus row (choice r e) h s = refl
 no_minus row (cast c e) h s = refl
 no_minus row (call g es) h s = head_first (func_word g) (put_exs row es (key m.Close ∷ s))
@@ -252,11 +252,11 @@ module _ (row : List ℕ) (named_row : IsName row) where
     spaced (member e es) h s stops a =
         (open_lexes _, spaced e h.0 _ at_space (spaced_word m.In refl _, (open_lexes _, exs_spaced es h.1 (key m.Close ∷ key m.Close ∷ s) (before_close (key m.Close ∷ s)) (close_spaced (key m.Close ∷ s) (close_spaced s a)))))
     spaced (between e x y) h s stops a = (open_lexes _, spaced e h.0 _ at_space (spaced_word m.Between refl _, spaced x h.1 _ at_space (spaced_word m.And refl _, spaced y h.2 (key m.Close ∷ s) (before_close s) (close_spaced s a))))
-    spaced (matching how.like e p) h s stops a = (open_lexes _, spaced e h _ at_space (spaced_word m.Like refl _, (last_string p (before_close s), close_spaced s a)))
-    spaced (matching how.ilike e p) h s stops a = (open_lexes _, spaced e h _ at_space (spaced_word m.ILike refl _, (last_string p (before_close s), close_spaced s a)))
-    spaced (matching how.starts e p) h s stops a = head_spaced f.StartsWith _ (spaced e h (put_comma (token (string p) ∷ key m.Close ∷ s)) (before_comma (token (string p) ∷ key m.Close ∷ s)) (text_spaced p s a))
-    spaced (matching how.ends e p) h s stops a = head_spaced f.EndsWith _ (spaced e h (put_comma (token (string p) ∷ key m.Close ∷ s)) (before_comma (token (string p) ∷ key m.Close ∷ s)) (text_spaced p s a))
-    spaced (matching how.contains e p) h s stops a = head_spaced f.Contains _ (spaced e h (put_comma (token (string p) ∷ key m.Close ∷ s)) (before_comma (token (string p) ∷ key m.Close ∷ s)) (text_spaced p s a))
+    spaced (matching how.Like e p) h s stops a = (open_lexes _, spaced e h _ at_space (spaced_word m.Like refl _, (last_string p (before_close s), close_spaced s a)))
+    spaced (matching how.ILike e p) h s stops a = (open_lexes _, spaced e h _ at_space (spaced_word m.ILike refl _, (last_string p (before_close s), close_spaced s a)))
+    spaced (matching how.Starts e p) h s stops a = head_spaced f.StartsWith _ (spaced e h (put_comma (token (string p) ∷ key m.Close ∷ s)) (before_comma (token (string p) ∷ key m.Close ∷ s)) (text_spaced p s a))
+    spaced (matching how.Ends e p) h s stops a = head_spaced f.EndsWith _ (spaced e h (put_comma (token (string p) ∷ key m.Close ∷ s)) (before_comma (token (string p) ∷ key m.Close ∷ s)) (text_spaced p s a))
+    spaced (matching how.Contains e p) h s stops a = head_spaced f.Contains _ (spaced e h (put_comma (token (string p) ∷ key m.Close ∷ s)) (before_comma (token (string p) ∷ key m.Close ∷ s)) (text_spaced p s a))
     spaced (choice r e) h s stops a =
         (open_lexes _, (reserved_lexes m.Case refl _ (arms_first row r _), arms_spaced r h.0 _ at_space (spaced_word m.Else refl _, spaced e h.2 _ at_space (last_word m.End refl (before_close s), close_spaced s a))))
     spaced (cast c e) h s stops a =

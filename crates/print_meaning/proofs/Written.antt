@@ -8,18 +8,18 @@ use Rattle.query_meaning.specs.declared.Mark.TheVariants as m
 use Rattle.query_meaning.specs.declared.FunctionWord.{FunctionWord}
 use Rattle.query_meaning.specs.declared.FunctionWord.TheVariants as f
 use Rattle.query_meaning.specs.declared.Level.TheVariants as lv
-use Rattle.query_meaning.specs.BinOp as op
-use Rattle.query_meaning.specs.IsWhat as what
-use Rattle.query_meaning.specs.How as how
-use Rattle.query_meaning.specs.Func as func
-use Rattle.query_meaning.specs.AggName.{AggName}
-use Rattle.query_meaning.specs.AggName as aggs
-use Rattle.query_meaning.specs.Tree.{Step, name, at, Ex, Exs, Arms, lit, path, neg, no, bin, is, member, between, matching, choice, cast, call, trunc, extract, shift, agg_of_rows, agg, exs, items, no_exs, ex, no_arms, arm, Outs, star, named, Query}
+use Rattle.tree_meaning.specs.declared.BinOp.TheVariants as op
+use Rattle.tree_meaning.specs.declared.IsWhat.TheVariants as what
+use Rattle.tree_meaning.specs.declared.How.TheVariants as how
+use Rattle.tree_meaning.specs.declared.Func.TheVariants as func
+use Rattle.tree_meaning.specs.declared.AggName.{AggName}
+use Rattle.tree_meaning.specs.declared.AggName.TheVariants as aggs
+use Rattle.tree_meaning.specs.Tree.{Step, name, at, Ex, Exs, Arms, lit, path, neg, no, bin, is, member, between, matching, choice, cast, call, trunc, extract, shift, agg_of_rows, agg, exs, items, no_exs, ex, no_arms, arm, Outs, star, named, Query}
 use Rattle.query_meaning.specs.Words.{function_text}
 use Rattle.query_meaning.specs.Tokens.{Toks, mark, word}
 use Rattle.query_meaning.specs.Grammar.{Head, aggregate, Joins, by_or, by_and, by_plus, by_minus, by_star, by_slash, by_percent, Compares, by_equal, by_unequal, by_less, by_at_most, by_greater, by_at_least, Asks, for_null, for_missing, for_true, for_false, by_like, by_ilike, is_null, is_missing, is_true, is_false, Calls, by_coalesce, by_null_if, by_char_length, by_unix_epoch, by_unix_micro, by_count, by_sum, by_min, by_max, by_avg, by_earliest, by_latest, by_bool_and, by_bool_or, by_starts_with, by_ends_with, by_contains, Opens, nothing, cut_to, part_from, added, Makes, coalesce, null_if, char_length, unix_epoch, unix_micro, aggregated, truncated, extracted, shifted, in_quotes, Steps, no_steps, dotted, indexed, Chain, chain, stop, more, Operand, of_or, of_and, of_sum, of_term, Neg, plain, negated, alone, compared, asked, tested, among, from_to, likened, Minus, unsigned, minus, Prim, a_number, a_string, a_moment, a_literal, a_path, in_parens, a_case, a_cast, a_call, a_match, a_count, Whens, last_when, more_whens, otherwise, Exprs, last_expr, more_exprs, Expr, Alias, no_alias, as_alias, Items, last_item, more_items, Outputs, all, listed, Direction, rising, descending, Keys, last_key, more_keys, Filter, no_filter, filter, Groups, no_groups, groups, Order, no_order, order, Count, no_count, count, skip_of, Written, written, IsQuery}
 use Rattle.query_meaning.specs.RowName.{row_name, without_row}
-use Rattle.query_meaning.specs.WellFormed.{IsLiteral, IsPath, IsStep, IsFormed, AreFormed, ArmsAreFormed, IsOutput, AreOutputs, IsKey, IsWellFormed}
+use Rattle.tree_meaning.specs.WellFormed.{IsLiteral, IsPath, IsStep, IsFormed, AreFormed, ArmsAreFormed, IsOutput, AreOutputs, IsKey, IsWellFormed}
 use Rattle.print_meaning.specs.Pieces.{Pieces, tokens_of}
 use Rattle.print_meaning.specs.Print.{key, what_mark, agg_word, put_literal, put_steps, put, put_exs, put_other_exs, put_arms, put_others, put_alias, put_item, put_outs, put_filter, put_groups, put_direction, put_key, put_order, put_count, skipped, printed}
 use Rattle.print_meaning.proofs.Known.{function-known, part-known, cast-known}
@@ -77,22 +77,22 @@ literal_put (val.list vs) h s = absurd h
 literal_put (val.struct fs) h s = absurd h
 
 asks_what : (w : what.IsWhat) → Asks (what_mark w) w
-asks_what what.null = for_null
-asks_what what.missing = for_missing
-asks_what what.truth = for_true
-asks_what what.falsehood = for_false
+asks_what what.Null = for_null
+asks_what what.Missing = for_missing
+asks_what what.True = for_true
+asks_what what.False = for_false
 
-calls_agg : (n : AggName) → (n ≡ aggs.count_all → ⊥) → Calls (agg_word n) (aggregate n)
-calls_agg aggs.count_all h = absurd (h refl)
-calls_agg aggs.count h = by_count
-calls_agg aggs.sum h = by_sum
-calls_agg aggs.min h = by_min
-calls_agg aggs.max h = by_max
-calls_agg aggs.avg h = by_avg
-calls_agg aggs.earliest h = by_earliest
-calls_agg aggs.latest h = by_latest
-calls_agg aggs.bool_and h = by_bool_and
-calls_agg aggs.bool_or h = by_bool_or
+calls_agg : (n : AggName) → (n ≡ aggs.CountAll → ⊥) → Calls (agg_word n) (aggregate n)
+calls_agg aggs.CountAll h = absurd (h refl)
+calls_agg aggs.Count h = by_count
+calls_agg aggs.Sum h = by_sum
+calls_agg aggs.Min h = by_min
+calls_agg aggs.Max h = by_max
+calls_agg aggs.Avg h = by_avg
+calls_agg aggs.Earliest h = by_earliest
+calls_agg aggs.Latest h = by_latest
+calls_agg aggs.BoolAnd h = by_bool_and
+calls_agg aggs.BoolOr h = by_bool_or
 
 pub exs_items : (es : Exs) → exs (items es) ≡ es
 exs_items no_exs = refl
@@ -107,48 +107,48 @@ mutual
   prim_put row (path r ss) h s = rw h.0 (a_path in_quotes (path_put ss h.1 s))
   prim_put row (neg e) h s = in_parens (expr_of (plain (alone (chain (term_of (minus (unsigned (prim_put row e h (key m.Close ∷ s))))) stop))))
   prim_put row (no e) h s = in_parens (expr_of (negated (neg_of (prim_put row e h _))))
-  prim_put row (bin op.add a b) h s = in_parens (of_sums by_plus (prim_put row a h.0 _) (prim_put row b h.1 _))
-  prim_put row (bin op.sub a b) h s = in_parens (of_sums by_minus (prim_put row a h.0 _) (prim_put row b h.1 _))
-  prim_put row (bin op.mul a b) h s = in_parens (of_terms by_star (prim_put row a h.0 _) (prim_put row b h.1 _))
-  prim_put row (bin op.div a b) h s = in_parens (of_terms by_slash (prim_put row a h.0 _) (prim_put row b h.1 _))
-  prim_put row (bin op.rem a b) h s = in_parens (of_terms by_percent (prim_put row a h.0 _) (prim_put row b h.1 _))
-  prim_put row (bin op.eq a b) h s = in_parens (of_tests by_equal (prim_put row a h.0 _) (prim_put row b h.1 _))
-  prim_put row (bin op.ne a b) h s = in_parens (of_tests by_unequal (prim_put row a h.0 _) (prim_put row b h.1 _))
-  prim_put row (bin op.lt a b) h s = in_parens (of_tests by_less (prim_put row a h.0 _) (prim_put row b h.1 _))
-  prim_put row (bin op.le a b) h s = in_parens (of_tests by_at_most (prim_put row a h.0 _) (prim_put row b h.1 _))
-  prim_put row (bin op.gt a b) h s = in_parens (of_tests by_greater (prim_put row a h.0 _) (prim_put row b h.1 _))
-  prim_put row (bin op.ge a b) h s = in_parens (of_tests by_at_least (prim_put row a h.0 _) (prim_put row b h.1 _))
-  prim_put row (bin op.both a b) h s = in_parens (chain (of_or (chain (of_and (neg_of (prim_put row a h.0 _))) (more by_and (of_and (neg_of (prim_put row b h.1 _))) stop))) stop)
-  prim_put row (bin op.either a b) h s = in_parens (chain (of_or (and_of (neg_of (prim_put row a h.0 _)))) (more by_or (of_or (and_of (neg_of (prim_put row b h.1 _)))) stop))
+  prim_put row (bin op.Add a b) h s = in_parens (of_sums by_plus (prim_put row a h.0 _) (prim_put row b h.1 _))
+  prim_put row (bin op.Sub a b) h s = in_parens (of_sums by_minus (prim_put row a h.0 _) (prim_put row b h.1 _))
+  prim_put row (bin op.Mul a b) h s = in_parens (of_terms by_star (prim_put row a h.0 _) (prim_put row b h.1 _))
+  prim_put row (bin op.Div a b) h s = in_parens (of_terms by_slash (prim_put row a h.0 _) (prim_put row b h.1 _))
+  prim_put row (bin op.Rem a b) h s = in_parens (of_terms by_percent (prim_put row a h.0 _) (prim_put row b h.1 _))
+  prim_put row (bin op.Eq a b) h s = in_parens (of_tests by_equal (prim_put row a h.0 _) (prim_put row b h.1 _))
+  prim_put row (bin op.Ne a b) h s = in_parens (of_tests by_unequal (prim_put row a h.0 _) (prim_put row b h.1 _))
+  prim_put row (bin op.Lt a b) h s = in_parens (of_tests by_less (prim_put row a h.0 _) (prim_put row b h.1 _))
+  prim_put row (bin op.Le a b) h s = in_parens (of_tests by_at_most (prim_put row a h.0 _) (prim_put row b h.1 _))
+  prim_put row (bin op.Gt a b) h s = in_parens (of_tests by_greater (prim_put row a h.0 _) (prim_put row b h.1 _))
+  prim_put row (bin op.Ge a b) h s = in_parens (of_tests by_at_least (prim_put row a h.0 _) (prim_put row b h.1 _))
+  prim_put row (bin op.And a b) h s = in_parens (chain (of_or (chain (of_and (neg_of (prim_put row a h.0 _))) (more by_and (of_and (neg_of (prim_put row b h.1 _))) stop))) stop)
+  prim_put row (bin op.Or a b) h s = in_parens (chain (of_or (and_of (neg_of (prim_put row a h.0 _)))) (more by_or (of_or (and_of (neg_of (prim_put row b h.1 _)))) stop))
   prim_put row (is w e) h s = in_parens (expr_of (plain (asked (asks_what w) (sum_of (prim_put row e h _)))))
   prim_put row (member e es) h s =
       in_parens (expr_of (plain (tested (sum_of (prim_put row e h.0 _)) (rw (← exs_items (long_exs row es)) (among (exs_put row es h.1 h.2 (key m.Close ∷ key m.Close ∷ s)))))))
   prim_put row (between e a b) h s = in_parens (expr_of (plain (tested (sum_of (prim_put row e h.0 _)) (from_to (sum_of (prim_put row a h.1 _)) (sum_of (prim_put row b h.2 _))))))
-  prim_put row (matching how.like e p) h s = in_parens (expr_of (plain (tested (sum_of (prim_put row e h _)) (likened by_like))))
-  prim_put row (matching how.ilike e p) h s = in_parens (expr_of (plain (tested (sum_of (prim_put row e h _)) (likened by_ilike))))
-  prim_put row (matching how.starts e p) h s = a_match (function-known f.StartsWith) by_starts_with (stands (prim_put row e h _))
-  prim_put row (matching how.ends e p) h s = a_match (function-known f.EndsWith) by_ends_with (stands (prim_put row e h _))
-  prim_put row (matching how.contains e p) h s = a_match (function-known f.Contains) by_contains (stands (prim_put row e h _))
+  prim_put row (matching how.Like e p) h s = in_parens (expr_of (plain (tested (sum_of (prim_put row e h _)) (likened by_like))))
+  prim_put row (matching how.ILike e p) h s = in_parens (expr_of (plain (tested (sum_of (prim_put row e h _)) (likened by_ilike))))
+  prim_put row (matching how.Starts e p) h s = a_match (function-known f.StartsWith) by_starts_with (stands (prim_put row e h _))
+  prim_put row (matching how.Ends e p) h s = a_match (function-known f.EndsWith) by_ends_with (stands (prim_put row e h _))
+  prim_put row (matching how.Contains e p) h s = a_match (function-known f.Contains) by_contains (stands (prim_put row e h _))
   prim_put row (choice no_arms e) h s = absurd h.1
   prim_put row (choice (arm a b r) e) h s =
       in_parens (stands (a_case (whens_put row r h.0.2 _ (stands (prim_put row a h.0.0 _)) (stands (prim_put row b h.0.1 _))) (otherwise (stands (prim_put row e h.2 _)))))
   prim_put row (cast c e) h s = a_cast (stands (prim_put row e h _)) (cast-known c)
-  prim_put row (call func.coalesce no_exs) h s = absurd (omega (arith, h.1))
-  prim_put row (call func.coalesce (ex e es)) h s =
+  prim_put row (call func.Coalesce no_exs) h s = absurd (omega (arith, h.1))
+  prim_put row (call func.Coalesce (ex e es)) h s =
       rw (← exs_items (long_exs row es)) (call_of (nothing by_coalesce) (other_exs_put row es h.0.1 (key m.Close ∷ s) (stands (prim_put row e h.0.0 _))) coalesce)
-  prim_put row (call func.null_if no_exs) h s = absurd (omega (arith, h.1))
-  prim_put row (call func.null_if (ex a no_exs)) h s = absurd (omega (arith, h.1))
-  prim_put row (call func.null_if (ex a (ex b no_exs))) h s = call_of (nothing by_null_if) (more_exprs (stands (prim_put row a h.0.0 _)) (last_expr (stands (prim_put row b h.0.1.0 _)))) null_if
-  prim_put row (call func.null_if (ex a (ex b (ex c es)))) h s = absurd (omega (arith, h.1))
-  prim_put row (call func.char_length no_exs) h s = absurd (omega (arith, h.1))
-  prim_put row (call func.char_length (ex a no_exs)) h s = call_of (nothing by_char_length) (last_expr (stands (prim_put row a h.0.0 _))) char_length
-  prim_put row (call func.char_length (ex a (ex b es))) h s = absurd (omega (arith, h.1))
-  prim_put row (call func.unix_epoch no_exs) h s = absurd (omega (arith, h.1))
-  prim_put row (call func.unix_epoch (ex a no_exs)) h s = call_of (nothing by_unix_epoch) (last_expr (stands (prim_put row a h.0.0 _))) unix_epoch
-  prim_put row (call func.unix_epoch (ex a (ex b es))) h s = absurd (omega (arith, h.1))
-  prim_put row (call func.unix_micro no_exs) h s = absurd (omega (arith, h.1))
-  prim_put row (call func.unix_micro (ex a no_exs)) h s = call_of (nothing by_unix_micro) (last_expr (stands (prim_put row a h.0.0 _))) unix_micro
-  prim_put row (call func.unix_micro (ex a (ex b es))) h s = absurd (omega (arith, h.1))
+  prim_put row (call func.NullIf no_exs) h s = absurd (omega (arith, h.1))
+  prim_put row (call func.NullIf (ex a no_exs)) h s = absurd (omega (arith, h.1))
+  prim_put row (call func.NullIf (ex a (ex b no_exs))) h s = call_of (nothing by_null_if) (more_exprs (stands (prim_put row a h.0.0 _)) (last_expr (stands (prim_put row b h.0.1.0 _)))) null_if
+  prim_put row (call func.NullIf (ex a (ex b (ex c es)))) h s = absurd (omega (arith, h.1))
+  prim_put row (call func.CharLength no_exs) h s = absurd (omega (arith, h.1))
+  prim_put row (call func.CharLength (ex a no_exs)) h s = call_of (nothing by_char_length) (last_expr (stands (prim_put row a h.0.0 _))) char_length
+  prim_put row (call func.CharLength (ex a (ex b es))) h s = absurd (omega (arith, h.1))
+  prim_put row (call func.UnixEpoch no_exs) h s = absurd (omega (arith, h.1))
+  prim_put row (call func.UnixEpoch (ex a no_exs)) h s = call_of (nothing by_unix_epoch) (last_expr (stands (prim_put row a h.0.0 _))) unix_epoch
+  prim_put row (call func.UnixEpoch (ex a (ex b es))) h s = absurd (omega (arith, h.1))
+  prim_put row (call func.UnixMicro no_exs) h s = absurd (omega (arith, h.1))
+  prim_put row (call func.UnixMicro (ex a no_exs)) h s = call_of (nothing by_unix_micro) (last_expr (stands (prim_put row a h.0.0 _))) unix_micro
+  prim_put row (call func.UnixMicro (ex a (ex b es))) h s = absurd (omega (arith, h.1))
   prim_put row (trunc p e) h s = call_of (cut_to (part-known p) h.0) (last_expr (stands (prim_put row e h.1 _))) truncated
   prim_put row (extract p e) h s = call_of (part_from (part-known p) h.0) (last_expr (stands (prim_put row e h.1 _))) extracted
   prim_put row (shift p a e) h s = call_of (added (part-known p) h.0) (more_exprs (stands (prim_put row a h.1 _)) (last_expr (stands (prim_put row e h.2 _)))) shifted

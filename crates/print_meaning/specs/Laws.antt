@@ -3,12 +3,12 @@ use Rattle.std.specs.Prelude.{◌≡◌, ℤ, List, Some, None, Ok}
 use Rattle.time_meaning.specs.Moments.{IsTime}
 use Rattle.time_meaning.specs.Printed.{time_text}
 use Rattle.time_meaning.specs.Texts.{time_of}
-use Rattle.query_meaning.specs.Tree.{Query}
+use Rattle.tree_meaning.specs.Tree.{Query}
 use Rattle.query_meaning.specs.Lexing.{Span, spans_of}
 use Rattle.query_meaning.specs.Tokens.{tokens_in}
 use Rattle.query_meaning.specs.Grammar.{IsQuery}
 use Rattle.query_meaning.specs.Reading.{query_of}
-use Rattle.query_meaning.specs.WellFormed.{IsWellFormed}
+use Rattle.tree_meaning.specs.WellFormed.{IsWellFormed}
 use Rattle.query_meaning.specs.Faults.{refused_at, Verdict, too_long, bad_token, too_many, refused, too_deep, not_a_query, is_query, ComesTo}
 use Rattle.print_meaning.specs.Pieces.{tokens_of}
 use Rattle.print_meaning.specs.Print.{printed, query_text}

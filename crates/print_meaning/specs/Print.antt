@@ -6,18 +6,18 @@ use Rattle.query_meaning.specs.declared.Mark.{Mark}
 use Rattle.query_meaning.specs.declared.Mark.TheVariants as m
 use Rattle.query_meaning.specs.declared.FunctionWord.{FunctionWord}
 use Rattle.query_meaning.specs.declared.FunctionWord.TheVariants as f
-use Rattle.query_meaning.specs.BinOp.{BinOp}
-use Rattle.query_meaning.specs.BinOp as op
-use Rattle.query_meaning.specs.IsWhat.{IsWhat}
-use Rattle.query_meaning.specs.IsWhat as what
-use Rattle.query_meaning.specs.How.{How}
-use Rattle.query_meaning.specs.How as how
-use Rattle.query_meaning.specs.Func.{Func}
-use Rattle.query_meaning.specs.Func as func
-use Rattle.query_meaning.specs.Part.{Part}
-use Rattle.query_meaning.specs.AggName.{AggName}
-use Rattle.query_meaning.specs.AggName as aggs
-use Rattle.query_meaning.specs.Tree.{Step, name, at, Ex, Exs, Arms, lit, path, neg, no, bin, is, member, between, matching, choice, cast, call, trunc, extract, shift, agg_of_rows, agg, no_exs, ex, no_arms, arm, Outs, star, named, Query}
+use Rattle.tree_meaning.specs.declared.BinOp.{BinOp}
+use Rattle.tree_meaning.specs.declared.BinOp.TheVariants as op
+use Rattle.tree_meaning.specs.declared.IsWhat.{IsWhat}
+use Rattle.tree_meaning.specs.declared.IsWhat.TheVariants as what
+use Rattle.tree_meaning.specs.declared.How.{How}
+use Rattle.tree_meaning.specs.declared.How.TheVariants as how
+use Rattle.tree_meaning.specs.declared.Func.{Func}
+use Rattle.tree_meaning.specs.declared.Func.TheVariants as func
+use Rattle.tree_meaning.specs.declared.Part.{Part}
+use Rattle.tree_meaning.specs.declared.AggName.{AggName}
+use Rattle.tree_meaning.specs.declared.AggName.TheVariants as aggs
+use Rattle.tree_meaning.specs.Tree.{Step, name, at, Ex, Exs, Arms, lit, path, neg, no, bin, is, member, between, matching, choice, cast, call, trunc, extract, shift, agg_of_rows, agg, no_exs, ex, no_arms, arm, Outs, star, named, Query}
 use Rattle.query_meaning.specs.Words.{function_text, part_text, cast_text}
 use Rattle.query_meaning.specs.Tokens.{mark, word, quoted, string, moment, num}
 use Rattle.query_meaning.specs.RowName.{row_name}
@@ -27,44 +27,44 @@ use Rattle.print_meaning.specs.Pieces.{Piece, Pieces, space, token, spelled}
 
 -- both spellings of unequal are printed as `<>`
 abbrev pub op_mark : BinOp → Mark
-op_mark op.add = m.Plus
-op_mark op.sub = m.Minus
-op_mark op.mul = m.Star
-op_mark op.div = m.Slash
-op_mark op.rem = m.Percent
-op_mark op.eq = m.Equal
-op_mark op.ne = m.Unequal
-op_mark op.lt = m.Less
-op_mark op.le = m.AtMost
-op_mark op.gt = m.Greater
-op_mark op.ge = m.AtLeast
-op_mark op.both = m.And
-op_mark op.either = m.Or
+op_mark op.Add = m.Plus
+op_mark op.Sub = m.Minus
+op_mark op.Mul = m.Star
+op_mark op.Div = m.Slash
+op_mark op.Rem = m.Percent
+op_mark op.Eq = m.Equal
+op_mark op.Ne = m.Unequal
+op_mark op.Lt = m.Less
+op_mark op.Le = m.AtMost
+op_mark op.Gt = m.Greater
+op_mark op.Ge = m.AtLeast
+op_mark op.And = m.And
+op_mark op.Or = m.Or
 
 abbrev pub what_mark : IsWhat → Mark
-what_mark what.null = m.Null
-what_mark what.missing = m.Missing
-what_mark what.truth = m.True
-what_mark what.falsehood = m.False
+what_mark what.Null = m.Null
+what_mark what.Missing = m.Missing
+what_mark what.True = m.True
+what_mark what.False = m.False
 
 abbrev pub func_word : Func → FunctionWord
-func_word func.coalesce = f.Coalesce
-func_word func.null_if = f.NullIf
-func_word func.char_length = f.CharLength
-func_word func.unix_epoch = f.ToUnixEpoch
-func_word func.unix_micro = f.ToUnixMicro
+func_word func.Coalesce = f.Coalesce
+func_word func.NullIf = f.NullIf
+func_word func.CharLength = f.CharLength
+func_word func.UnixEpoch = f.ToUnixEpoch
+func_word func.UnixMicro = f.ToUnixMicro
 
 abbrev pub agg_word : AggName → FunctionWord
-agg_word aggs.count_all = f.Count
-agg_word aggs.count = f.Count
-agg_word aggs.sum = f.Sum
-agg_word aggs.min = f.Min
-agg_word aggs.max = f.Max
-agg_word aggs.avg = f.Avg
-agg_word aggs.earliest = f.Earliest
-agg_word aggs.latest = f.Latest
-agg_word aggs.bool_and = f.BoolAnd
-agg_word aggs.bool_or = f.BoolOr
+agg_word aggs.CountAll = f.Count
+agg_word aggs.Count = f.Count
+agg_word aggs.Sum = f.Sum
+agg_word aggs.Min = f.Min
+agg_word aggs.Max = f.Max
+agg_word aggs.Avg = f.Avg
+agg_word aggs.Earliest = f.Earliest
+agg_word aggs.Latest = f.Latest
+agg_word aggs.BoolAnd = f.BoolAnd
+agg_word aggs.BoolOr = f.BoolOr
 
 -- Pieces.
 
@@ -117,11 +117,11 @@ abbrev mutual
   put row (is w e) s = key m.Open ∷ put row e (put_between m.Is (key (what_mark w) ∷ key m.Close ∷ s))
   put row (member e es) s = key m.Open ∷ put row e (put_between m.In (key m.Open ∷ put_exs row es (key m.Close ∷ key m.Close ∷ s)))
   put row (between e a b) s = key m.Open ∷ put row e (put_between m.Between (put row a (put_between m.And (put row b (key m.Close ∷ s)))))
-  put row (matching how.like e p) s = key m.Open ∷ put row e (put_between m.Like (token (string p) ∷ key m.Close ∷ s))
-  put row (matching how.ilike e p) s = key m.Open ∷ put row e (put_between m.ILike (token (string p) ∷ key m.Close ∷ s))
-  put row (matching how.starts e p) s = put_head f.StartsWith (put row e (put_comma (token (string p) ∷ key m.Close ∷ s)))
-  put row (matching how.ends e p) s = put_head f.EndsWith (put row e (put_comma (token (string p) ∷ key m.Close ∷ s)))
-  put row (matching how.contains e p) s = put_head f.Contains (put row e (put_comma (token (string p) ∷ key m.Close ∷ s)))
+  put row (matching how.Like e p) s = key m.Open ∷ put row e (put_between m.Like (token (string p) ∷ key m.Close ∷ s))
+  put row (matching how.ILike e p) s = key m.Open ∷ put row e (put_between m.ILike (token (string p) ∷ key m.Close ∷ s))
+  put row (matching how.Starts e p) s = put_head f.StartsWith (put row e (put_comma (token (string p) ∷ key m.Close ∷ s)))
+  put row (matching how.Ends e p) s = put_head f.EndsWith (put row e (put_comma (token (string p) ∷ key m.Close ∷ s)))
+  put row (matching how.Contains e p) s = put_head f.Contains (put row e (put_comma (token (string p) ∷ key m.Close ∷ s)))
   put row (choice r e) s = key m.Open ∷ key m.Case ∷ put_arms row r (put_between m.Else (put row e (space ∷ key m.End ∷ key m.Close ∷ s)))
   put row (cast c e) s = key m.Cast ∷ key m.Open ∷ put row e (put_between m.As (token (word (cast_text c)) ∷ key m.Close ∷ s))
   put row (call g es) s = put_head (func_word g) (put_exs row es (key m.Close ∷ s))

@@ -4,7 +4,7 @@ use Rattle.value_meaning.specs.Val.{Val}
 use Rattle.query_meaning.specs.declared.Mark.{Mark}
 use Rattle.query_meaning.specs.declared.Mark.TheVariants as m
 use Rattle.query_meaning.specs.Words.{mark_text}
-use Rattle.query_meaning.specs.Tree.{Step, Ex, exs, arms, Outs}
+use Rattle.tree_meaning.specs.Tree.{Step, Ex, exs, arms, Outs}
 use Rattle.print_meaning.specs.Pieces.{in_quotes, spelled}
 use Rattle.print_meaning.specs.Print.{put_literal, put_steps, put, put_exs, put_arms, put_list, put_item, put_key, put_outs}
 

@@ -1,8 +1,8 @@
 -- Instructions: each makes one register, a mask or a value, from registers that were made before it.
 use Rattle.std.specs.Prelude.{ℕ, List}
 use Rattle.value_meaning.specs.Val.{Val}
-use Rattle.query_meaning.specs.BinOp.{BinOp}
-use Rattle.query_meaning.specs.IsWhat.{IsWhat}
+use Rattle.tree_meaning.specs.declared.BinOp.{BinOp}
+use Rattle.tree_meaning.specs.declared.IsWhat.{IsWhat}
 
 -- a function of one value: a step of a path, to the pair of a name or to the item at a place, and the operators
 pub data One : Type 0 where

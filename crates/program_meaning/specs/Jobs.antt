@@ -1,7 +1,7 @@
 -- Jobs: a program and its ends, which say which registers a query's answer is made from.
 use Rattle.std.specs.Prelude.{◌≡◌, ℕ, ◌<◌, Bool, true, List, [], All, Option, None, Some}
-use Rattle.query_meaning.specs.AggName.{AggName}
-use Rattle.query_meaning.specs.AggName as aggs
+use Rattle.tree_meaning.specs.declared.AggName.{AggName}
+use Rattle.tree_meaning.specs.declared.AggName.TheVariants as aggs
 use Rattle.program_meaning.specs.Instructions.{Instr}
 use Rattle.program_meaning.specs.Programs.{mask_count, value_count, IsProgram}
 
@@ -25,8 +25,8 @@ pub record Job : Type 0 where
 
 -- an aggregate names a value among the first v; COUNT(*), and it alone, names none
 abbrev pub IsAggregate : ℕ → AggName × Option ℕ → Type 0
-IsAggregate v (name, None) = name ≡ aggs.count_all
-IsAggregate v (name, Some r) = (name ≡ aggs.count_all → ⊥) × (r < v)
+IsAggregate v (name, None) = name ≡ aggs.CountAll
+IsAggregate v (name, Some r) = (name ≡ aggs.CountAll → ⊥) × (r < v)
 
 -- the ends name registers, each of its class, among the first m masks and v values
 pub record AreEnds (m v : ℕ) (e : Ends) : Type 0 where

@@ -3,8 +3,8 @@
 use Rattle.std.specs.Prelude.{◌≡◌, ℕ, ◌+◌, ◌<◌, Bool, true, false, not, cond, List, [], ◌∷◌, ◌++◌, count_by}
 use Rattle.value_meaning.specs.Val.{Val, missing, null, truth, int, time, text, list, struct}
 use Rattle.time_meaning.specs.Moments.{IsTime}
-use Rattle.query_meaning.specs.BinOp.{BinOp}
-use Rattle.query_meaning.specs.BinOp as op
+use Rattle.tree_meaning.specs.declared.BinOp.{BinOp}
+use Rattle.tree_meaning.specs.declared.BinOp.TheVariants as op
 use Rattle.eval_meaning.specs.Numbers.{fits}
 use Rattle.program_meaning.specs.Instructions.{Two, binary, Source, row, literal, of_one, of_two, Instr, all, holding, make}
 
@@ -36,19 +36,19 @@ IsConstant (struct fs) = ⊥
 
 -- the operators that instructions have: AND and OR
 abbrev pub IsOperator : BinOp → Type 0
-IsOperator op.add = ⊥
-IsOperator op.sub = ⊥
-IsOperator op.mul = ⊥
-IsOperator op.div = ⊥
-IsOperator op.rem = ⊥
-IsOperator op.eq = ⊥
-IsOperator op.ne = ⊥
-IsOperator op.lt = ⊥
-IsOperator op.le = ⊥
-IsOperator op.gt = ⊥
-IsOperator op.ge = ⊥
-IsOperator op.both = Unit {0}
-IsOperator op.either = Unit {0}
+IsOperator op.Add = ⊥
+IsOperator op.Sub = ⊥
+IsOperator op.Mul = ⊥
+IsOperator op.Div = ⊥
+IsOperator op.Rem = ⊥
+IsOperator op.Eq = ⊥
+IsOperator op.Ne = ⊥
+IsOperator op.Lt = ⊥
+IsOperator op.Le = ⊥
+IsOperator op.Gt = ⊥
+IsOperator op.Ge = ⊥
+IsOperator op.And = Unit {0}
+IsOperator op.Or = Unit {0}
 
 abbrev pub IsFunction : Two → Type 0
 IsFunction (binary o) = IsOperator o

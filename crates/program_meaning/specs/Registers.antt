@@ -1,7 +1,7 @@
 -- What a program shows in one lane: what each instruction makes of the registers that were made before it.
 use Rattle.std.specs.Prelude.{◌≡◌, ℕ, ◌<◌, Bool, false, true, ◌&&◌, cond, List, [], ◌∷◌, ◌++◌, Option, None, Some, slice_get, slice_index_or, fold}
 use Rattle.value_meaning.specs.Val.{Val, missing}
-use Rattle.query_meaning.specs.Tree.{name, at}
+use Rattle.tree_meaning.specs.Tree.{name, at}
 use Rattle.eval_meaning.specs.Logic.{not_of, is_of, is_true}
 use Rattle.eval_meaning.specs.Paths.{step_of}
 use Rattle.eval_meaning.specs.Evaluation as evaluation

@@ -3,8 +3,8 @@
 use Rattle.std.specs.Prelude.{◌≡◌, ℕ, ◌+◌, ◌<◌, Bool, true, false, List, [], map, length, take, drop, Option, None, Some, is_some, slice_get, if◌then◌else◌}
 use Rattle.std.specs.Option.{option_map}
 use Rattle.value_meaning.specs.Val.{Val}
-use Rattle.query_meaning.specs.AggName.{AggName}
-use Rattle.query_meaning.specs.Tree.{Ex, Outs, star, named, Query, agg_of_rows, agg}
+use Rattle.tree_meaning.specs.declared.AggName.{AggName}
+use Rattle.tree_meaning.specs.Tree.{Ex, Outs, star, named, Query, agg_of_rows, agg}
 use Rattle.check_meaning.specs.Names.{names}
 use Rattle.check_meaning.specs.Places.{output_exs, order_ex}
 use Rattle.check_meaning.specs.Aggregates.{aggregates, is_grouped}

@@ -1,7 +1,7 @@
 -- Chains of expressions and arms, by their lists.
 use Rattle.std.proofs.Common.{◌≡◌, ℕ, zero, suc, ◌+◌, ◌-◌, ◌*◌, ◌<◌, ◌≤◌, ◌/◌, ◌%◌, ◌⊎◌, inl, inr, sym, ◌∙◌, List, [], ◌∷◌, ◌++◌, length, Option, Some, None, refl, ap, arith}
 use Rattle.std.specs.Prelude.{slice_get, unwrap_or}
-use Rattle.query_meaning.specs.Tree.{Ex, items, exs, arms}
+use Rattle.tree_meaning.specs.Tree.{Ex, items, exs, arms}
 use Rattle.check_meaning.specs.Operands.{arm_operands}
 
 pub items_exs : (xs : List Ex) → items (exs xs) ≡ xs

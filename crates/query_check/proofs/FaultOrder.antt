@@ -1,7 +1,7 @@
 -- The first fault among the kinds of faults, in their order.
 use Rattle.std.proofs.Common.{◌≡◌, ℕ, ◌≤◌, Bool, true, List, [], ◌∷◌, length, Option, Some, None, refl, sym, ◌∙◌, ap, arith}
 use Rattle.std.proofs.lemmas.List.{length-map}
-use Rattle.query_meaning.specs.Tree.{Ex, Outs, star, named, Query}
+use Rattle.tree_meaning.specs.Tree.{Ex, Outs, star, named, Query}
 use Rattle.std.specs.Option.{option_map}
 use Rattle.check_meaning.specs.Limit.{Limit}
 use Rattle.check_meaning.specs.Place.{Place, output}

@@ -6,7 +6,7 @@ use Rattle.std.specs.Option.{option_map}
 use Rattle.std.proofs.lemmas.List.{length-map}
 use Rattle.snel_values.specs.declared.steps.Step.{Step}
 use Rattle.snel_values.specs.declared.steps.Step.TheVariants as step
-use Rattle.sql_tree.specs.View.{step_view}
+use Rattle.query_tree.specs.View.{step_view}
 use Rattle.check_meaning.specs.Names.{last_name}
 use Rattle.query_check.proofs.Listed.{some_is, mapped_at}
 

@@ -4,10 +4,10 @@ use Rattle.std.specs.Prelude.{slice_get}
 use Rattle.std.proofs.lemmas.Bool.Decides.{nat_tests}
 use lib.Signed.{lt_z}
 use lib.IntN.{nat_abs}
-use Rattle.query_meaning.specs.Tree.{path, Outs}
+use Rattle.tree_meaning.specs.Tree.{path, Outs}
 use Rattle.snel_values.specs.declared.steps.Step.{Step}
 use Rattle.snel_values.specs.declared.steps.Step.TheVariants as step
-use Rattle.sql_tree.specs.View.{step_view}
+use Rattle.query_tree.specs.View.{step_view}
 use Rattle.check_meaning.specs.Names.{last_name}
 use Rattle.check_meaning.specs.Places.{as_name, output_at, output_exs}
 use Rattle.query_check.proofs.Listed.{some_is}

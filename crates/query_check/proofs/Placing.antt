@@ -3,7 +3,7 @@ use Rattle.std.proofs.Common.{◌≡◌, ℕ, zero, suc, ◌+◌, ◌-◌, ◌<�
 use Rattle.std.specs.Prelude.{slice_get, Bool}
 use Rattle.std.specs.List.{enumerate_from}
 use Rattle.std.proofs.lemmas.List.{length-map}
-use Rattle.query_meaning.specs.Tree.{Ex, Query}
+use Rattle.tree_meaning.specs.Tree.{Ex, Query}
 use Rattle.check_meaning.specs.Place.{Place, output, where_test, group_key, having, order_key}
 use Rattle.check_meaning.specs.Places.{counted, alone, output_exs, order_ex, places}
 use Rattle.query_check.specs.Placed.{order_places, having_places, key_places, where_places}

@@ -3,8 +3,8 @@ use Rattle.std.proofs.Common.{◌≡◌, ℕ, List, [], ◌∷◌, ◌++◌, Opt
 use Rattle.std.specs.Prelude.{slice_get, unwrap_or}
 use base.Stored.{gnum}
 use Rattle.value_meaning.specs.Val.{missing}
-use Rattle.query_meaning.specs.Tree.{Ex, Exs, Arms, lit, path, neg, no, bin, is, member, between, matching, choice, cast, call, trunc, extract, shift, agg_of_rows, agg, no_exs, ex, no_arms, arm, items, exs}
-use Rattle.query_meaning.specs.Code.{op_inj, what_inj, how_inj, to_inj, func_inj, part_inj, aggs_inj}
+use Rattle.tree_meaning.specs.Tree.{Ex, Exs, Arms, lit, path, neg, no, bin, is, member, between, matching, choice, cast, call, trunc, extract, shift, agg_of_rows, agg, no_exs, ex, no_arms, arm, items, exs}
+use Rattle.tree_meaning.specs.Code.{op_inj, what_inj, how_inj, to_inj, func_inj, part_inj, aggs_inj}
 use Rattle.check_meaning.specs.Operands.{operands, arm_operands}
 use Rattle.query_check.specs.Heads.{SameHead, kind_of, detail_of, steps_of, text_of, value_of}
 

@@ -2,7 +2,7 @@
 use Rattle.std.proofs.Common.{◌≡◌, ℕ, zero, suc, ◌+◌, ◌<◌, ◌≤◌, Bool, true, false, List, [], ◌∷◌, length, drop, Option, Some, None, refl, sym, ◌∙◌, ap, arith, add-one}
 use Rattle.std.specs.Prelude.{slice_get, unwrap_or, IsTrue, find}
 use Rattle.std.specs.List.{list_any, position_from}
-use Rattle.query_meaning.specs.Tree.{Ex}
+use Rattle.tree_meaning.specs.Tree.{Ex}
 use Rattle.check_meaning.specs.Same.{same_ex}
 use Rattle.check_meaning.proofs.Same.{same_ex-is, same_ex-of}
 use Rattle.query_check.proofs.Listed.{some_is}

@@ -1,7 +1,7 @@
 -- What stands in a list is smaller than the list.
 use Rattle.std.proofs.Common.{◌≡◌, ℕ, zero, suc, ◌+◌, ◌<◌, List, [], ◌∷◌, ◌++◌, length, take, Some, refl, ap, arith, add-one}
 use Rattle.std.specs.Prelude.{slice_get}
-use Rattle.query_meaning.specs.Tree.{Ex, size, exs, exs_size, arms, arms_size}
+use Rattle.tree_meaning.specs.Tree.{Ex, size, exs, exs_size, arms, arms_size}
 use Rattle.query_check.proofs.Listed.{some_is}
 
 pub item_smaller : (es : List Ex) (k : ℕ) (x : Ex) → slice_get es k ≡ Some x → size x < exs_size (exs es)

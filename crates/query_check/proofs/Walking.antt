@@ -2,7 +2,7 @@
 use Rattle.std.proofs.Common.{◌≡◌, ℕ, ◌+◌, ◌≤◌, Bool, true, false, ◌||◌, List, [], ◌∷◌, ◌++◌, length, drop, Some, refl, sym, ◌∙◌, ap, append_assoc, map, cond}
 use Rattle.std.specs.Prelude.{slice_get, filter, fold}
 use Rattle.std.specs.List.{list_any, flat_map}
-use Rattle.query_meaning.specs.Tree.{Ex}
+use Rattle.tree_meaning.specs.Tree.{Ex}
 use Rattle.check_meaning.specs.Operands.{operands}
 use Rattle.check_meaning.specs.Parts.{parts, parts_outside, none}
 use Rattle.check_meaning.specs.Aggregates.{with_new, is_aggregate}

@@ -1,6 +1,6 @@
 -- An accepted query, with its names and aggregates and whether it is grouped.
 use Rattle.std.specs.Prelude.{◌≡◌, ℕ, List, Bool, None}
-use Rattle.query_meaning.specs.Tree.{Ex, Query}
+use Rattle.tree_meaning.specs.Tree.{Ex, Query}
 use Rattle.check_meaning.specs.Names.{names}
 use Rattle.check_meaning.specs.Aggregates.{aggregates, is_grouped}
 use Rattle.check_meaning.specs.Verdict.{fault_of}

@@ -1,6 +1,6 @@
 -- What is looked for among the parts of an expression, and where the search stops.
 use Rattle.std.specs.Prelude.{Bool, List}
-use Rattle.query_meaning.specs.Tree.{Ex}
+use Rattle.tree_meaning.specs.Tree.{Ex}
 use Rattle.check_meaning.specs.Parts.{none}
 use Rattle.check_meaning.specs.Aggregates.{is_aggregate}
 use Rattle.check_meaning.specs.Tests.{is_long, is_path, is_row_form, is_given}

@@ -1,6 +1,6 @@
 -- What a check answers: the query, which then has no fault, or its first fault.
 use Rattle.std.specs.Prelude.{◌≡◌, Result, Ok, Err, None}
-use Rattle.query_meaning.specs.Tree.{Query}
+use Rattle.tree_meaning.specs.Tree.{Query}
 use Rattle.check_meaning.specs.Verdict.{fault_of}
 use Rattle.query_check.specs.declared.verdict.Checked.{Checked}
 use Rattle.query_check.specs.declared.fault.CheckFault.{CheckFault}

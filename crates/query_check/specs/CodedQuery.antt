@@ -1,8 +1,8 @@
 -- The code of queries, by which a proof tells them apart.
 use Rattle.std.specs.Prelude.{◌≡◌, ℕ, List, Bool, Option, Some, None, refl}
 use Rattle.std.specs.Coded.{Coded, code_by, coded×, coded_option, coded_list, coded_ℕ, coded_bool}
-use Rattle.query_meaning.specs.Tree.{Ex, Outs, star, named, Query}
-use Rattle.query_meaning.specs.Code.{coded_ex}
+use Rattle.tree_meaning.specs.Tree.{Ex, Outs, star, named, Query}
+use Rattle.tree_meaning.specs.Code.{coded_ex}
 
 abbrev pub of_outs : Outs → Option (List (Ex × Option (List ℕ)))
 of_outs star = None

@@ -1,8 +1,8 @@
 -- What an expression is apart from the expressions that stand in it.
 use Rattle.std.specs.Prelude.{◌≡◌, ℕ, List, [], Option, Some, None}
 use Rattle.value_meaning.specs.Val.{Val}
-use Rattle.query_meaning.specs.Code.{op_number, what_number, how_number, to_number, func_number, part_number, aggs_number}
-use Rattle.query_meaning.specs.Tree.{Step, Ex, lit, path, neg, no, bin, is, member, between, matching, choice, cast, call, trunc, extract, shift, agg_of_rows, agg}
+use Rattle.tree_meaning.specs.Code.{op_number, what_number, how_number, to_number, func_number, part_number, aggs_number}
+use Rattle.tree_meaning.specs.Tree.{Step, Ex, lit, path, neg, no, bin, is, member, between, matching, choice, cast, call, trunc, extract, shift, agg_of_rows, agg}
 
 -- its form
 abbrev pub kind_of : Ex → ℕ

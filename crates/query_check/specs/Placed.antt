@@ -1,6 +1,6 @@
 -- The places of a query, from one kind of place on, and what is asked at them.
 use Rattle.std.specs.Prelude.{◌≡◌, ℕ, ◌≤◌, Bool, List, ◌++◌, map, length}
-use Rattle.query_meaning.specs.Tree.{Ex, Query}
+use Rattle.tree_meaning.specs.Tree.{Ex, Query}
 use Rattle.check_meaning.specs.Limit.{most}
 use Rattle.check_meaning.specs.Limit as limit
 use Rattle.check_meaning.specs.Place.{Place, output, where_test, group_key, having, order_key}

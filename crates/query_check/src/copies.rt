@@ -1,10 +1,10 @@
 ghost use Rattle.std.specs.Prelude.{◌≡◌, IfOk};
 ghost use Rattle.std.specs.Option.{option_map};
-ghost use Rattle.sql_tree.specs.View.{view, arm_view};
+ghost use Rattle.query_tree.specs.View.{view, arm_view};
 
 use crate::operands::{arm, item};
 use snel_values::{OutOfMemory, Step, Steps};
-use sql_tree::{Arm, Arms, Expr, Exprs, Operand};
+use query_tree::{Arm, Arms, Expr, Exprs, Operand};
 use std::alloc::Global;
 
 /// An equal step.

@@ -1,12 +1,11 @@
 ghost use Rattle.std.specs.Prelude.{◌≡◌};
-ghost use Rattle.query_meaning.specs.Code as code;
+ghost use Rattle.tree_meaning.specs.Code as code;
 ghost use Rattle.query_check.specs.Heads.{kind_of, detail_of};
-ghost use Rattle.sql_tree.specs.Names.{op_view, what_view, how_view, to_view, func_view, part_view, agg_view};
-ghost use Rattle.sql_tree.specs.View.{view};
+ghost use Rattle.query_tree.specs.View.{view};
 
-use agg_laws::AggName;
-use snel_values::{BinOp, CastTo, Func, How, IsWhat, Part};
-use sql_tree::Expr;
+use tree_meaning::AggName;
+use tree_meaning::{BinOp, CastTo, Func, How, IsWhat, Part};
+use query_tree::Expr;
 
 /// The number of an expression's form.
 pub(crate) fn kind(expr: &Expr) -> u8
@@ -85,7 +84,7 @@ pub(crate) fn detail(expr: &Expr) -> u8
 }
 
 fn operator(op: BinOp) -> u8
-    ensures { result ≡ code.op_number (op_view op) }
+    ensures { result ≡ code.op_number op }
 {
     match op {
         BinOp::Add => 0,
@@ -105,7 +104,7 @@ fn operator(op: BinOp) -> u8
 }
 
 fn asked(what: IsWhat) -> u8
-    ensures { result ≡ code.what_number (what_view what) }
+    ensures { result ≡ code.what_number what }
 {
     match what {
         IsWhat::Null => 0,
@@ -116,7 +115,7 @@ fn asked(what: IsWhat) -> u8
 }
 
 fn matching(how: How) -> u8
-    ensures { result ≡ code.how_number (how_view how) }
+    ensures { result ≡ code.how_number how }
 {
     match how {
         How::Like => 0,
@@ -128,7 +127,7 @@ fn matching(how: How) -> u8
 }
 
 fn made(to: CastTo) -> u8
-    ensures { result ≡ code.to_number (to_view to) }
+    ensures { result ≡ code.to_number to }
 {
     match to {
         CastTo::Integer => 0,
@@ -137,7 +136,7 @@ fn made(to: CastTo) -> u8
 }
 
 fn function(name: Func) -> u8
-    ensures { result ≡ code.func_number (func_view name) }
+    ensures { result ≡ code.func_number name }
 {
     match name {
         Func::Coalesce => 0,
@@ -149,7 +148,7 @@ fn function(name: Func) -> u8
 }
 
 fn time_part(part: Part) -> u8
-    ensures { result ≡ code.part_number (part_view part) }
+    ensures { result ≡ code.part_number part }
 {
     match part {
         Part::Microsecond => 0,
@@ -165,7 +164,7 @@ fn time_part(part: Part) -> u8
 }
 
 fn aggregate(name: AggName) -> u8
-    ensures { result ≡ code.aggs_number (agg_view name) }
+    ensures { result ≡ code.aggs_number name }
 {
     match name {
         AggName::CountAll => 0,

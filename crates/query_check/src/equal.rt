@@ -1,10 +1,10 @@
 ghost use Rattle.std.specs.Prelude.{◌≡◌, ◌↔◌, IsTrue};
 ghost use Rattle.check_meaning.specs.Aggregates.{is_among};
-ghost use Rattle.sql_tree.specs.View.{view};
+ghost use Rattle.query_tree.specs.View.{view};
 
 use crate::heads::same_head;
 use crate::operands::{item, operand, operand_count};
-use sql_tree::{Expr, Exprs};
+use query_tree::{Expr, Exprs};
 
 /// Whether two expressions are equal.
 pub fn same_expr(a: &Expr, b: &Expr) -> bool

@@ -5,8 +5,8 @@ ghost use Rattle.std.specs.Str.{bytes_eq};
 ghost use Rattle.check_meaning.specs.Aggregates as aggs;
 ghost use Rattle.check_meaning.specs.Names as named;
 ghost use Rattle.check_meaning.specs.Verdict as verdict;
-ghost use Rattle.sql_tree.specs.View.{view};
-ghost use Rattle.sql_tree.specs.Queries.{outs_view, query_view};
+ghost use Rattle.query_tree.specs.View.{view};
+ghost use Rattle.query_tree.specs.Queries.{outs_view, query_view};
 ghost use Rattle.query_check.specs.Faults.{place_view, limit_view};
 ghost use Rattle.query_check.specs.Placed as placed;
 
@@ -16,7 +16,7 @@ use crate::order::{as_number, name_at, output_at, output_count};
 use crate::places::{Rule, is_so, number, order_key, place_at, place_count};
 use crate::walk::gather;
 use snel_values::OutOfMemory;
-use sql_tree::{Expr, Exprs, Outputs, Query};
+use query_tree::{Expr, Exprs, Outputs, Query};
 use std::alloc::Global;
 
 /// The first place that is so.

@@ -2,11 +2,11 @@ ghost use Rattle.std.specs.Prelude.{◌≡◌, ◌↔◌, IsTrue, map};
 ghost use Rattle.std.specs.Option.{option_map};
 ghost use Rattle.query_check.specs.Heads.{steps_of, text_of, value_of, SameHead};
 ghost use Rattle.snel_values.specs.View.{view as value_view};
-ghost use Rattle.sql_tree.specs.View.{view, step_view};
+ghost use Rattle.query_tree.specs.View.{view, step_view};
 
 use crate::details::{detail, kind};
 use snel_values::{Step, Steps, Value, same};
-use sql_tree::Expr;
+use query_tree::Expr;
 
 /// Whether two steps are equal.
 fn same_step(a: &Step, b: &Step) -> bool

@@ -1,12 +1,12 @@
 ghost use Rattle.std.specs.Prelude.{◌≡◌, ◌<◌, ◌+◌, [], ◌∷◌, ◌++◌, length, map, slice_get, Some, OnOk, OnErr, IfOk, option_copied};
 ghost use Rattle.std.specs.List.{enumerate_from};
 ghost use Rattle.check_meaning.specs.Names as spec;
-ghost use Rattle.sql_tree.specs.View.{view, step_view};
-ghost use Rattle.sql_tree.specs.Parts.{item_view};
-ghost use Rattle.sql_tree.specs.Queries.{outs_view};
+ghost use Rattle.query_tree.specs.View.{view, step_view};
+ghost use Rattle.query_tree.specs.Parts.{item_view};
+ghost use Rattle.query_tree.specs.Queries.{outs_view};
 
 use snel_values::{OutOfMemory, Step, Steps, Text};
-use sql_tree::{Expr, Item, OutItems, Outputs};
+use query_tree::{Expr, Item, OutItems, Outputs};
 use std::alloc::Global;
 use std::marker::Model;
 

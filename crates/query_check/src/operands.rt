@@ -1,10 +1,10 @@
 ghost use Rattle.std.specs.Prelude.{◌≡◌, ◌%◌, ◌<◌, Some, [], ◌∷◌, ◌++◌, length, slice_get};
 ghost use Rattle.std.specs.Option.{option_map};
-ghost use Rattle.query_meaning.specs.Tree.{exs, arms};
+ghost use Rattle.tree_meaning.specs.Tree.{exs, arms};
 ghost use Rattle.check_meaning.specs.Operands.{operands, arm_operands};
-ghost use Rattle.sql_tree.specs.View.{view, arm_view};
+ghost use Rattle.query_tree.specs.View.{view, arm_view};
 
-use sql_tree::{Arm, Arms, Expr, Exprs, Operand};
+use query_tree::{Arm, Arms, Expr, Exprs, Operand};
 
 /// The first of one expression.
 fn one(of: &Operand, at: u128) -> Option<&Expr>

@@ -4,14 +4,14 @@ ghost use Rattle.std.specs.List.{position_from};
 ghost use Rattle.std.specs.Str.{bytes_eq};
 ghost use Rattle.check_meaning.specs.Names as named;
 ghost use Rattle.check_meaning.specs.Places as spec;
-ghost use Rattle.sql_tree.specs.View.{view, step_view};
-ghost use Rattle.sql_tree.specs.Queries.{outs_view};
+ghost use Rattle.query_tree.specs.View.{view, step_view};
+ghost use Rattle.query_tree.specs.Queries.{outs_view};
 ghost use Rattle.snel_values.specs.View.{view as value_view};
-ghost use Rattle.query_meaning.specs.Tree.{lit, path};
+ghost use Rattle.tree_meaning.specs.Tree.{lit, path};
 
 use crate::names::{Names, output_item, step_at, step_name};
 use snel_values::{Steps, Text, Value};
-use sql_tree::{Expr, OutItems, Outputs};
+use query_tree::{Expr, OutItems, Outputs};
 
 /// How many outputs there are; `*` has none.
 pub(crate) fn output_count(outputs: &Outputs) -> usize

@@ -4,9 +4,9 @@ ghost use Rattle.check_meaning.specs.Names as named;
 ghost use Rattle.check_meaning.specs.Places as spec;
 ghost use Rattle.check_meaning.specs.Place as site;
 ghost use Rattle.check_meaning.specs.Place.{Place as Site};
-ghost use Rattle.sql_tree.specs.View.{view};
-ghost use Rattle.sql_tree.specs.Parts.{key_view};
-ghost use Rattle.sql_tree.specs.Queries.{outs_view, query_view};
+ghost use Rattle.query_tree.specs.View.{view};
+ghost use Rattle.query_tree.specs.Parts.{key_view};
+ghost use Rattle.query_tree.specs.Queries.{outs_view, query_view};
 ghost use Rattle.query_check.specs.Faults.{place_view};
 ghost use Rattle.query_check.specs.Placed as placed;
 
@@ -15,7 +15,7 @@ use crate::names::Names;
 use crate::operands::item;
 use crate::order::{order_ex, output_count, output_ex};
 use crate::walk::{Asked, has_doubled, has_part};
-use sql_tree::{Expr, Exprs, OrderKey, OrderKeys, Outputs, Query};
+use query_tree::{Expr, Exprs, OrderKey, OrderKeys, Outputs, Query};
 
 /// The number of what stands at a place that is counted from 0.
 pub(crate) fn number(at: usize) -> u32

@@ -4,7 +4,7 @@ ghost use Rattle.check_meaning.specs.Aggregates as aggs;
 ghost use Rattle.check_meaning.specs.Names as named;
 ghost use Rattle.check_meaning.specs.Tests as tests;
 ghost use Rattle.check_meaning.specs.Verdict as verdict;
-ghost use Rattle.sql_tree.specs.Queries.{outs_view, query_view};
+ghost use Rattle.query_tree.specs.Queries.{outs_view, query_view};
 ghost use Rattle.query_check.specs.Faults.{place_view, IsFirst};
 ghost use Rattle.query_check.specs.Placed as placed;
 ghost use Rattle.query_check.specs.Checks.{Checks};
@@ -16,7 +16,7 @@ use crate::firsts::{
 };
 use crate::names::{Names, names_of};
 use crate::places::Rule;
-use sql_tree::{Exprs, Outputs, Query};
+use query_tree::{Exprs, Outputs, Query};
 use std::alloc::Global;
 use std::marker::Model;
 
@@ -30,14 +30,14 @@ pub struct Checked {
 }
 
 impl Model for Checked {
-    ghost use Rattle.query_meaning.specs.Tree.{Query as Tree};
+    ghost use Rattle.tree_meaning.specs.Tree.{Query as Tree};
     ghost use Rattle.query_check.specs.CodedQuery.{coded_query};
 
     ghost Value = { Tree };
 
     ghost coded = { coded_query };
 
-    ghost use Rattle.sql_tree.specs.Queries.{query_view};
+    ghost use Rattle.query_tree.specs.Queries.{query_view};
     ghost use Rattle.query_check.specs.Accepted.{IsAccepted};
 
     ghost view = { λ c. query_view c.query };

@@ -4,14 +4,14 @@ ghost use Rattle.check_meaning.specs.Parts.{parts, parts_outside};
 ghost use Rattle.check_meaning.specs.Aggregates as spec;
 ghost use Rattle.check_meaning.specs.Tests as tests;
 ghost use Rattle.query_check.specs.Asked as of_asked;
-ghost use Rattle.sql_tree.specs.Names.{func_view};
-ghost use Rattle.sql_tree.specs.View.{view};
+ghost use Rattle.query_tree.specs.View.{view};
 
 use crate::copies::copy_expr;
 use crate::equal::is_among;
 use crate::operands::{operand, operand_count};
-use snel_values::{Func, OutOfMemory};
-use sql_tree::{Expr, Exprs};
+use snel_values::OutOfMemory;
+use tree_meaning::Func;
+use query_tree::{Expr, Exprs};
 use std::alloc::Global;
 
 /// What is looked for among the parts of an expression.
@@ -63,7 +63,7 @@ fn is_long(expr: &Expr) -> bool
 
 /// Whether the function is one of times or of a text's length.
 fn is_row_function(name: Func) -> bool
-    ensures { result ≡ tests.is_row_function (func_view name) }
+    ensures { result ≡ tests.is_row_function name }
 {
     match name {
         Func::Coalesce => false,

@@ -7,11 +7,11 @@ use Rattle.time_meaning.specs.Moments.{IsTime}
 use Rattle.query_meaning.specs.declared.Mark.{Mark}
 use Rattle.query_meaning.specs.declared.FunctionWord.{FunctionWord}
 use Rattle.query_meaning.specs.declared.Level.{Level}
-use Rattle.query_meaning.specs.Part.{is_cut_to, is_extracted, is_added}
-use Rattle.query_meaning.specs.Tree.{Step, name, at, Ex, Arms, exs, items, Outs, Query}
+use Rattle.tree_meaning.specs.Parts.{is_cut_to, is_extracted, is_added}
+use Rattle.tree_meaning.specs.Tree.{Step, name, at, Ex, Arms, exs, items, Outs, Query}
 use Rattle.query_meaning.specs.Tokens.{Tok, Toks, mark, word, quoted, string, moment, num, no_token}
 use Rattle.query_meaning.specs.Grammar.{Denotes, is_null, is_missing, is_true, is_false, Head, function, aggregate, truncation, extraction, addition, Calls, by_coalesce, by_null_if, by_char_length, by_unix_epoch, by_unix_micro, by_count, by_sum, by_min, by_max, by_avg, by_earliest, by_latest, by_bool_and, by_bool_or, Opens, nothing, cut_to, part_from, added, Makes, coalesce, null_if, char_length, unix_epoch, unix_micro, aggregated, truncated, extracted, shifted, Name, bare, in_quotes, Steps, no_steps, dotted, indexed, Chain, chain, More, stop, more, Operand, of_or, of_and, of_sum, of_term, Neg, plain, negated, Pred, alone, compared, asked, asked_not, tested, tested_not, Test, among, from_to, likened, Minus, unsigned, minus, Prim, a_number, a_string, a_moment, a_literal, a_path, in_parens, a_case, a_cast, a_call, a_match, a_count, Whens, last_when, more_whens, Else, without, otherwise, Exprs, last_expr, more_exprs, Alias, no_alias, alias, as_alias, Items, last_item, more_items, Outputs, all, listed, Direction, rising, ascending, descending, Keys, last_key, more_keys, Filter, no_filter, filter, Groups, no_groups, groups, Order, no_order, order, Count, no_count, count, skip_of, Written, written}
-use Rattle.query_meaning.specs.WellFormed.{IsName, IsLiteral, IsStep, IsOfRows, HasArm, IsFormed, AreFormed, ArmsAreFormed, IsOutput, AreOutputs, IsKey, IsCount, IsWellFormed}
+use Rattle.tree_meaning.specs.WellFormed.{IsName, IsLiteral, IsStep, IsOfRows, HasArm, IsFormed, AreFormed, ArmsAreFormed, IsOutput, AreOutputs, IsKey, IsCount, IsWellFormed}
 
 -- what every token of a text is
 abbrev pub IsToken : Tok → Type 0

@@ -4,12 +4,12 @@ use Rattle.std.specs.Prelude.{All, IfSome}
 use Rattle.std.specs.Option.{option_map}
 use Rattle.std.specs.Str.{bytes_eq}
 use Rattle.std.proofs.lemmas.List.Elements.{All-cons}
-use Rattle.query_meaning.specs.Tree.{Step, name, at, Ex, Exs, Arms, lit, path, neg, no, bin, is, member, between, matching, choice, cast, call, trunc, extract, shift, agg_of_rows, agg, no_exs, ex, no_arms, arm, items, Outs, star, named, Query}
+use Rattle.tree_meaning.specs.Tree.{Step, name, at, Ex, Exs, Arms, lit, path, neg, no, bin, is, member, between, matching, choice, cast, call, trunc, extract, shift, agg_of_rows, agg, no_exs, ex, no_arms, arm, items, Outs, star, named, Query}
 use Rattle.query_meaning.specs.RowName.{row_name, short_path, short, short_exs, short_arms, short_outs, without_row}
 use Rattle.query_meaning.specs.Tokens.{Toks}
 use Rattle.query_meaning.specs.Grammar.{IsQuery}
 use Rattle.query_meaning.proofs.Formed.{AreTokens, written_formed}
-use Rattle.query_meaning.specs.WellFormed.{IsStep, IsPath, HasArm, IsFormed, AreFormed, ArmsAreFormed, IsOutput, AreOutputs, IsKey, IsWellFormed}
+use Rattle.tree_meaning.specs.WellFormed.{IsStep, IsPath, HasArm, IsFormed, AreFormed, ArmsAreFormed, IsOutput, AreOutputs, IsKey, IsWellFormed}
 
 first_of_all : {A : Type 0} (P : A → Type 0) (x : A) (xs : List A) → All P (x ∷ xs) → P x
 first_of_all P x xs h = h 0 x (omega arith)

@@ -10,14 +10,14 @@ use Rattle.query_meaning.specs.declared.FunctionWord.{FunctionWord}
 use Rattle.query_meaning.specs.declared.FunctionWord.TheVariants as f
 use Rattle.query_meaning.specs.declared.Level.{Level}
 use Rattle.query_meaning.specs.declared.Level.TheVariants as lv
-use Rattle.query_meaning.specs.BinOp.{BinOp}
-use Rattle.query_meaning.specs.IsWhat.{IsWhat}
-use Rattle.query_meaning.specs.How.{How}
-use Rattle.query_meaning.specs.CastTo.{CastTo}
-use Rattle.query_meaning.specs.Func as func
-use Rattle.query_meaning.specs.Part.{Part}
-use Rattle.query_meaning.specs.AggName as aggs
-use Rattle.query_meaning.specs.Tree.{Step, name, at, Ex, Arms, lit, path, neg, no, bin, is, member, between, matching, choice, cast, call, agg_of_rows, exs}
+use Rattle.tree_meaning.specs.declared.BinOp.{BinOp}
+use Rattle.tree_meaning.specs.declared.IsWhat.{IsWhat}
+use Rattle.tree_meaning.specs.declared.How.{How}
+use Rattle.tree_meaning.specs.declared.CastTo.{CastTo}
+use Rattle.tree_meaning.specs.declared.Func.TheVariants as func
+use Rattle.tree_meaning.specs.declared.Part.{Part}
+use Rattle.tree_meaning.specs.declared.AggName.TheVariants as aggs
+use Rattle.tree_meaning.specs.Tree.{Step, name, at, Ex, Arms, lit, path, neg, no, bin, is, member, between, matching, choice, cast, call, agg_of_rows, exs}
 use Rattle.query_meaning.specs.Words.{function_word, part_word, cast_word}
 use Rattle.query_meaning.specs.Tokens.{Tok, Toks, mark, word, quoted, string, moment, num, no_token}
 use Rattle.query_meaning.specs.Grammar.{Head, function, Joins, by_or, by_and, by_plus, by_minus, by_star, by_slash, by_percent, Compares, by_equal, by_unequal, by_less, by_at_most, by_greater, by_at_least, Asks, for_null, for_missing, for_true, for_false, Likens, by_like, by_ilike, Denotes, is_null, is_missing, is_true, is_false, Calls, by_coalesce, by_null_if, by_char_length, by_unix_epoch, by_unix_micro, by_count, by_sum, by_min, by_max, by_avg, by_earliest, by_latest, by_bool_and, by_bool_or, Matches, by_starts_with, by_ends_with, by_contains, Opens, nothing, cut_to, part_from, added, Makes, coalesce, null_if, char_length, unix_epoch, unix_micro, aggregated, truncated, extracted, shifted, Name, bare, in_quotes, Steps, no_steps, dotted, indexed, Chain, chain, More, stop, more, Operand, of_or, of_and, of_sum, of_term, Neg, plain, negated, Pred, alone, compared, asked, asked_not, tested, tested_not, Test, among, from_to, likened, Minus, unsigned, minus, Prim, a_number, a_string, a_moment, a_literal, a_path, in_parens, a_case, a_cast, a_call, a_match, a_count, Whens, last_when, more_whens, Else, without, otherwise, Exprs, last_expr, more_exprs, Expr}
@@ -423,7 +423,7 @@ makes_full : {h : Head} {es : List Ex} {e : Ex} → Makes h es e → made h es �
 unfolding made
 makes_full (coalesce {es = es}) = go es
   where
-    go : {e : Ex} (es : List Ex) → made (function func.coalesce) (e ∷ es) ≡ Some (call func.coalesce (exs (e ∷ es)))
+    go : {e : Ex} (es : List Ex) → made (function func.Coalesce) (e ∷ es) ≡ Some (call func.Coalesce (exs (e ∷ es)))
     go [] = refl
     go (a ∷ []) = refl
     go (a ∷ b ∷ es) = refl
@@ -486,7 +486,7 @@ word_full : (n : List ℕ) (w : FunctionWord) (s : Toks) (f : Reader Ex) (k : �
 unfolding prim_by word_by
 word_full n w s f k known = rw known refl
 
-count_full : (inner : Reader Ex) (n : ℕ) (s : Toks) → call_by inner n f.Count (mark m.Star ∷ mark m.Close ∷ s) ≡ Some (agg_of_rows aggs.count_all, s)
+count_full : (inner : Reader Ex) (n : ℕ) (s : Toks) → call_by inner n f.Count (mark m.Star ∷ mark m.Close ∷ s) ≡ Some (agg_of_rows aggs.CountAll, s)
 unfolding call_by rows_at
 count_full inner n s = refl
 

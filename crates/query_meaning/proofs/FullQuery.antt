@@ -2,7 +2,7 @@
 use Rattle.std.proofs.Common.{◌≡◌, ℕ, zero, suc, ◌<◌, ◌≤◌, List, [], ◌∷◌, length, Option, Some, None, Bool, true, false, cond, refl, sym, ap, ◌∙◌, arith}
 use Rattle.query_meaning.specs.declared.Mark.{Mark}
 use Rattle.query_meaning.specs.declared.Mark.TheVariants as m
-use Rattle.query_meaning.specs.Tree.{Ex, Outs, Query}
+use Rattle.tree_meaning.specs.Tree.{Ex, Outs, Query}
 use Rattle.query_meaning.specs.Tokens.{Tok, Toks, mark, word, quoted, string, moment, num, no_token}
 use Rattle.query_meaning.specs.Grammar.{Name, bare, in_quotes, Expr, Alias, no_alias, alias, as_alias, Items, last_item, more_items, Outputs, all, listed, Direction, rising, ascending, descending, Keys, last_key, more_keys, Filter, no_filter, filter, Groups, no_groups, groups, Order, no_order, order, Count, no_count, count, skip_of, Written, written, IsQuery}
 use Rattle.query_meaning.specs.Reading.{is_mark, after, name_at, num_at, list_by, expr_at, alias_at, item_by, outputs_by, direction_at, key_by, filter_by, groups_by, order_by, count_at, window_at, raw_in, raw_of, query_of}

@@ -11,9 +11,10 @@ use Rattle.query_meaning.specs.declared.TokenKind.{TokenKind}
 use Rattle.query_meaning.specs.declared.TokenKind.TheVariants as k
 use Rattle.query_meaning.specs.declared.Mark.{Mark}
 use Rattle.query_meaning.specs.Words.{reserved_word}
-use Rattle.query_meaning.specs.Lexing.{Span, Cut, is_space, starts_word, is_digit, is_word_byte, is_no_backtick, run, decimal_on, number_of, closing, or_one, number_cut, is_ended, quoted_or, name_cut, string_cut, moment_cut, one_sign, two_sign, sign_of, begins_with, begins_two, sign_cut, cut_at, cut_then, with_span, spans_from, spans_of}
+use Rattle.query_meaning.specs.Lexing.{Span, Cut, is_space, starts_word, is_digit, is_word_byte, is_no_backtick, run, number_of, closing, or_one, number_cut, is_ended, quoted_or, name_cut, string_cut, moment_cut, one_sign, two_sign, sign_of, begins_with, begins_two, sign_cut, cut_at, cut_then, with_span, spans_from, spans_of}
+use Rattle.tree_meaning.specs.Decimals.{decimal_on}
 use Rattle.query_meaning.specs.Tokens.{word, no_token, inner, undoubled, if_mark, if_moment, if_num, token_of, meaning, tokens_in}
-use Rattle.query_meaning.specs.WellFormed.{IsName}
+use Rattle.tree_meaning.specs.WellFormed.{IsName}
 use Rattle.query_meaning.proofs.Steps.{some_is, map_then, if_then}
 use Rattle.query_meaning.proofs.Formed.{IsToken, AreTokens}
 

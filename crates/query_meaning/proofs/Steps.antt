@@ -4,7 +4,7 @@ use Rattle.std.specs.Option.{option_map}
 use denote.Enum.Bare.{same_true}
 use Rattle.query_meaning.specs.contracts.Mark as mark_type
 use Rattle.query_meaning.specs.declared.Mark.{Mark}
-use Rattle.query_meaning.specs.Tree.{Ex}
+use Rattle.tree_meaning.specs.Tree.{Ex}
 use Rattle.query_meaning.specs.Tokens.{Tok, Toks, mark, word, quoted, string, moment, num, no_token}
 use Rattle.query_meaning.specs.Grammar.{Name, bare, in_quotes}
 use Rattle.query_meaning.specs.Reading.{◌>>=◌, match_option, is_mark, after, said, Reader, prefixed, count_of, behind, times, name_at, word_at, string_at, num_at}

@@ -9,14 +9,15 @@ use Rattle.query_meaning.specs.declared.FunctionWord.{FunctionWord}
 use Rattle.query_meaning.specs.declared.FunctionWord.TheVariants as f
 use Rattle.query_meaning.specs.declared.Level.{Level}
 use Rattle.query_meaning.specs.declared.Level.TheVariants as lv
-use Rattle.query_meaning.specs.BinOp.{BinOp}
-use Rattle.query_meaning.specs.IsWhat.{IsWhat}
-use Rattle.query_meaning.specs.How.{How}
-use Rattle.query_meaning.specs.Func.{Func}
-use Rattle.query_meaning.specs.Func as func
-use Rattle.query_meaning.specs.Part.{Part, is_cut_to, is_extracted, is_added}
-use Rattle.query_meaning.specs.AggName as aggs
-use Rattle.query_meaning.specs.Tree.{Step, name, at, Ex, neg, no, bin, matching, agg_of_rows}
+use Rattle.tree_meaning.specs.declared.BinOp.{BinOp}
+use Rattle.tree_meaning.specs.declared.IsWhat.{IsWhat}
+use Rattle.tree_meaning.specs.declared.How.{How}
+use Rattle.tree_meaning.specs.declared.Func.{Func}
+use Rattle.tree_meaning.specs.declared.Func.TheVariants as func
+use Rattle.tree_meaning.specs.declared.Part.{Part}
+use Rattle.tree_meaning.specs.Parts.{is_cut_to, is_extracted, is_added}
+use Rattle.tree_meaning.specs.declared.AggName.TheVariants as aggs
+use Rattle.tree_meaning.specs.Tree.{Step, name, at, Ex, neg, no, bin, matching, agg_of_rows}
 use Rattle.query_meaning.specs.Words.{function_word, part_word, cast_word}
 use Rattle.query_meaning.specs.Tokens.{Tok, Toks, mark, word, quoted, string, moment, num, no_token}
 use Rattle.query_meaning.specs.Grammar as g
@@ -247,33 +248,33 @@ head-takes f.BoolAnd ts x e = plain_takes ts x g.by_bool_and e
 head-takes f.BoolOr ts x e = plain_takes ts x g.by_bool_or e
 
 one_made : (h : Head) (a e : Ex) → made_one h a ≡ Some e → g.Makes h (a ∷ []) e
-one_made (function func.coalesce) a e p = rw (← some_is _ _ p) g.coalesce
-one_made (function func.null_if) a e p = absurd cc
-one_made (function func.char_length) a e p = rw (← some_is _ _ p) g.char_length
-one_made (function func.unix_epoch) a e p = rw (← some_is _ _ p) g.unix_epoch
-one_made (function func.unix_micro) a e p = rw (← some_is _ _ p) g.unix_micro
+one_made (function func.Coalesce) a e p = rw (← some_is _ _ p) g.coalesce
+one_made (function func.NullIf) a e p = absurd cc
+one_made (function func.CharLength) a e p = rw (← some_is _ _ p) g.char_length
+one_made (function func.UnixEpoch) a e p = rw (← some_is _ _ p) g.unix_epoch
+one_made (function func.UnixMicro) a e p = rw (← some_is _ _ p) g.unix_micro
 one_made (aggregate n) a e p = rw (← some_is _ _ p) g.aggregated
 one_made (truncation n) a e p = rw (← some_is _ _ p) g.truncated
 one_made (extraction n) a e p = rw (← some_is _ _ p) g.extracted
 one_made (addition n) a e p = absurd cc
 
 two_made : (h : Head) (a b e : Ex) → made_two h a b ≡ Some e → g.Makes h (a ∷ b ∷ []) e
-two_made (function func.coalesce) a b e p = rw (← some_is _ _ p) g.coalesce
-two_made (function func.null_if) a b e p = rw (← some_is _ _ p) g.null_if
-two_made (function func.char_length) a b e p = absurd cc
-two_made (function func.unix_epoch) a b e p = absurd cc
-two_made (function func.unix_micro) a b e p = absurd cc
+two_made (function func.Coalesce) a b e p = rw (← some_is _ _ p) g.coalesce
+two_made (function func.NullIf) a b e p = rw (← some_is _ _ p) g.null_if
+two_made (function func.CharLength) a b e p = absurd cc
+two_made (function func.UnixEpoch) a b e p = absurd cc
+two_made (function func.UnixMicro) a b e p = absurd cc
 two_made (aggregate n) a b e p = absurd cc
 two_made (truncation n) a b e p = absurd cc
 two_made (extraction n) a b e p = absurd cc
 two_made (addition n) a b e p = rw (← some_is _ _ p) g.shifted
 
 many_made : (h : Head) (a : Ex) (es : List Ex) (e : Ex) → made_many h (a ∷ es) ≡ Some e → g.Makes h (a ∷ es) e
-many_made (function func.coalesce) a es e p = rw (← some_is _ _ p) g.coalesce
-many_made (function func.null_if) a es e p = absurd cc
-many_made (function func.char_length) a es e p = absurd cc
-many_made (function func.unix_epoch) a es e p = absurd cc
-many_made (function func.unix_micro) a es e p = absurd cc
+many_made (function func.Coalesce) a es e p = rw (← some_is _ _ p) g.coalesce
+many_made (function func.NullIf) a es e p = absurd cc
+many_made (function func.CharLength) a es e p = absurd cc
+many_made (function func.UnixEpoch) a es e p = absurd cc
+many_made (function func.UnixMicro) a es e p = absurd cc
 many_made (aggregate n) a es e p = absurd cc
 many_made (truncation n) a es e p = absurd cc
 many_made (extraction n) a es e p = absurd cc
@@ -292,7 +293,7 @@ unfolding rows_at
 rows-some f.Count ts r e = (refl, after-some m.Star ts r e)
 rows-some _ ts r e = absurd cc
 
-rows_take : (w : List ℕ) (fw : FunctionWord) → function_word w ≡ Some fw → fw ≡ f.Count → (u : Toks) → g.Prim (word w ∷ mark m.Open ∷ mark m.Star ∷ mark m.Close ∷ u) (agg_of_rows aggs.count_all) u
+rows_take : (w : List ℕ) (fw : FunctionWord) → function_word w ≡ Some fw → fw ≡ f.Count → (u : Toks) → g.Prim (word w ∷ mark m.Open ∷ mark m.Star ∷ mark m.Close ∷ u) (agg_of_rows aggs.CountAll) u
 rows_take w fw known same u = g.a_count (known ∙ ap Some same)
 
 module _ (f : Reader Ex) (t : Takes g.Expr f) where

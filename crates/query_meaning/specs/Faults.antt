@@ -6,7 +6,7 @@ use Rattle.query_meaning.specs.declared.TokenKind.{TokenKind}
 use Rattle.query_meaning.specs.declared.TokenKind.TheVariants as k
 use Rattle.query_meaning.specs.declared.Mark.{Mark}
 use Rattle.query_meaning.specs.declared.Mark.TheVariants as m
-use Rattle.query_meaning.specs.Tree.{Query}
+use Rattle.tree_meaning.specs.Tree.{Query}
 use Rattle.query_meaning.specs.Words.{is_refused}
 use Rattle.query_meaning.specs.Lexing.{Span, spans_of}
 use Rattle.query_meaning.specs.Tokens.{Tok, Toks, mark, word, quoted, string, moment, num, no_token, bytes_at, tokens_in}

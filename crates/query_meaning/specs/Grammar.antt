@@ -9,53 +9,54 @@ use Rattle.query_meaning.specs.declared.FunctionWord.{FunctionWord}
 use Rattle.query_meaning.specs.declared.FunctionWord.TheVariants as f
 use Rattle.query_meaning.specs.declared.Level.{Level}
 use Rattle.query_meaning.specs.declared.Level.TheVariants as lv
-use Rattle.query_meaning.specs.BinOp.{BinOp}
-use Rattle.query_meaning.specs.BinOp as op
-use Rattle.query_meaning.specs.IsWhat.{IsWhat}
-use Rattle.query_meaning.specs.IsWhat as what
-use Rattle.query_meaning.specs.How.{How}
-use Rattle.query_meaning.specs.How as how
-use Rattle.query_meaning.specs.CastTo.{CastTo}
-use Rattle.query_meaning.specs.Func.{Func}
-use Rattle.query_meaning.specs.Func as func
-use Rattle.query_meaning.specs.Part.{Part, is_cut_to, is_extracted, is_added}
-use Rattle.query_meaning.specs.AggName.{AggName}
-use Rattle.query_meaning.specs.AggName as aggs
-use Rattle.query_meaning.specs.Tree.{Step, name, at, Ex, Arms, lit, path, neg, no, bin, is, member, between, matching, choice, cast, call, trunc, extract, shift, agg_of_rows, agg, exs, no_arms, arm, Outs, star, named, Query}
+use Rattle.tree_meaning.specs.declared.BinOp.{BinOp}
+use Rattle.tree_meaning.specs.declared.BinOp.TheVariants as op
+use Rattle.tree_meaning.specs.declared.IsWhat.{IsWhat}
+use Rattle.tree_meaning.specs.declared.IsWhat.TheVariants as what
+use Rattle.tree_meaning.specs.declared.How.{How}
+use Rattle.tree_meaning.specs.declared.How.TheVariants as how
+use Rattle.tree_meaning.specs.declared.CastTo.{CastTo}
+use Rattle.tree_meaning.specs.declared.Func.{Func}
+use Rattle.tree_meaning.specs.declared.Func.TheVariants as func
+use Rattle.tree_meaning.specs.declared.Part.{Part}
+use Rattle.tree_meaning.specs.Parts.{is_cut_to, is_extracted, is_added}
+use Rattle.tree_meaning.specs.declared.AggName.{AggName}
+use Rattle.tree_meaning.specs.declared.AggName.TheVariants as aggs
+use Rattle.tree_meaning.specs.Tree.{Step, name, at, Ex, Arms, lit, path, neg, no, bin, is, member, between, matching, choice, cast, call, trunc, extract, shift, agg_of_rows, agg, exs, no_arms, arm, Outs, star, named, Query}
 use Rattle.query_meaning.specs.Words.{function_word, part_word, cast_word}
 use Rattle.query_meaning.specs.Tokens.{Tok, Toks, mark, word, quoted, string, moment, num}
 use Rattle.query_meaning.specs.RowName.{row_name, without_row}
 
 -- the operators of a level
 pub data Joins : Level → Mark → BinOp → Type 0 where
-  by_or : Joins lv.Or m.Or op.either
-  by_and : Joins lv.And m.And op.both
-  by_plus : Joins lv.Sum m.Plus op.add
-  by_minus : Joins lv.Sum m.Minus op.sub
-  by_star : Joins lv.Term m.Star op.mul
-  by_slash : Joins lv.Term m.Slash op.div
-  by_percent : Joins lv.Term m.Percent op.rem
+  by_or : Joins lv.Or m.Or op.Or
+  by_and : Joins lv.And m.And op.And
+  by_plus : Joins lv.Sum m.Plus op.Add
+  by_minus : Joins lv.Sum m.Minus op.Sub
+  by_star : Joins lv.Term m.Star op.Mul
+  by_slash : Joins lv.Term m.Slash op.Div
+  by_percent : Joins lv.Term m.Percent op.Rem
 
 -- the comparisons
 pub data Compares : Mark → BinOp → Type 0 where
-  by_equal : Compares m.Equal op.eq
-  by_unequal : Compares m.Unequal op.ne
-  by_less : Compares m.Less op.lt
-  by_at_most : Compares m.AtMost op.le
-  by_greater : Compares m.Greater op.gt
-  by_at_least : Compares m.AtLeast op.ge
+  by_equal : Compares m.Equal op.Eq
+  by_unequal : Compares m.Unequal op.Ne
+  by_less : Compares m.Less op.Lt
+  by_at_most : Compares m.AtMost op.Le
+  by_greater : Compares m.Greater op.Gt
+  by_at_least : Compares m.AtLeast op.Ge
 
 -- what follows IS
 pub data Asks : Mark → IsWhat → Type 0 where
-  for_null : Asks m.Null what.null
-  for_missing : Asks m.Missing what.missing
-  for_true : Asks m.True what.truth
-  for_false : Asks m.False what.falsehood
+  for_null : Asks m.Null what.Null
+  for_missing : Asks m.Missing what.Missing
+  for_true : Asks m.True what.True
+  for_false : Asks m.False what.False
 
 -- LIKE and ILIKE
 pub data Likens : Mark → How → Type 0 where
-  by_like : Likens m.Like how.like
-  by_ilike : Likens m.ILike how.ilike
+  by_like : Likens m.Like how.Like
+  by_ilike : Likens m.ILike how.ILike
 
 -- the literals that are words
 pub data Denotes : Mark → Val → Type 0 where
@@ -74,26 +75,26 @@ pub data Head : Type 0 where
 
 -- the words that stand for a function or an aggregate of expressions alone
 pub data Calls : FunctionWord → Head → Type 0 where
-  by_coalesce : Calls f.Coalesce (function func.coalesce)
-  by_null_if : Calls f.NullIf (function func.null_if)
-  by_char_length : Calls f.CharLength (function func.char_length)
-  by_unix_epoch : Calls f.ToUnixEpoch (function func.unix_epoch)
-  by_unix_micro : Calls f.ToUnixMicro (function func.unix_micro)
-  by_count : Calls f.Count (aggregate aggs.count)
-  by_sum : Calls f.Sum (aggregate aggs.sum)
-  by_min : Calls f.Min (aggregate aggs.min)
-  by_max : Calls f.Max (aggregate aggs.max)
-  by_avg : Calls f.Avg (aggregate aggs.avg)
-  by_earliest : Calls f.Earliest (aggregate aggs.earliest)
-  by_latest : Calls f.Latest (aggregate aggs.latest)
-  by_bool_and : Calls f.BoolAnd (aggregate aggs.bool_and)
-  by_bool_or : Calls f.BoolOr (aggregate aggs.bool_or)
+  by_coalesce : Calls f.Coalesce (function func.Coalesce)
+  by_null_if : Calls f.NullIf (function func.NullIf)
+  by_char_length : Calls f.CharLength (function func.CharLength)
+  by_unix_epoch : Calls f.ToUnixEpoch (function func.UnixEpoch)
+  by_unix_micro : Calls f.ToUnixMicro (function func.UnixMicro)
+  by_count : Calls f.Count (aggregate aggs.Count)
+  by_sum : Calls f.Sum (aggregate aggs.Sum)
+  by_min : Calls f.Min (aggregate aggs.Min)
+  by_max : Calls f.Max (aggregate aggs.Max)
+  by_avg : Calls f.Avg (aggregate aggs.Avg)
+  by_earliest : Calls f.Earliest (aggregate aggs.Earliest)
+  by_latest : Calls f.Latest (aggregate aggs.Latest)
+  by_bool_and : Calls f.BoolAnd (aggregate aggs.BoolAnd)
+  by_bool_or : Calls f.BoolOr (aggregate aggs.BoolOr)
 
 -- the words that match an expression with a text
 pub data Matches : FunctionWord → How → Type 0 where
-  by_starts_with : Matches f.StartsWith how.starts
-  by_ends_with : Matches f.EndsWith how.ends
-  by_contains : Matches f.Contains how.contains
+  by_starts_with : Matches f.StartsWith how.Starts
+  by_ends_with : Matches f.EndsWith how.Ends
+  by_contains : Matches f.Contains how.Contains
 
 -- what stands in the parentheses of a call before its expressions
 pub data Opens : FunctionWord → Toks → Head → Toks → Type 0 where
@@ -105,11 +106,11 @@ pub data Opens : FunctionWord → Toks → Head → Toks → Type 0 where
 -- the tree of a call with these expressions: COALESCE takes one or more, NULLIF two, DATE_ADD a count and what it is
 -- added to, and all others one
 pub data Makes : Head → List Ex → Ex → Type 0 where
-  coalesce : {e : Ex} {es : List Ex} → Makes (function func.coalesce) (e ∷ es) (call func.coalesce (exs (e ∷ es)))
-  null_if : {a b : Ex} → Makes (function func.null_if) (a ∷ b ∷ []) (call func.null_if (exs (a ∷ b ∷ [])))
-  char_length : {e : Ex} → Makes (function func.char_length) (e ∷ []) (call func.char_length (exs (e ∷ [])))
-  unix_epoch : {e : Ex} → Makes (function func.unix_epoch) (e ∷ []) (call func.unix_epoch (exs (e ∷ [])))
-  unix_micro : {e : Ex} → Makes (function func.unix_micro) (e ∷ []) (call func.unix_micro (exs (e ∷ [])))
+  coalesce : {e : Ex} {es : List Ex} → Makes (function func.Coalesce) (e ∷ es) (call func.Coalesce (exs (e ∷ es)))
+  null_if : {a b : Ex} → Makes (function func.NullIf) (a ∷ b ∷ []) (call func.NullIf (exs (a ∷ b ∷ [])))
+  char_length : {e : Ex} → Makes (function func.CharLength) (e ∷ []) (call func.CharLength (exs (e ∷ [])))
+  unix_epoch : {e : Ex} → Makes (function func.UnixEpoch) (e ∷ []) (call func.UnixEpoch (exs (e ∷ [])))
+  unix_micro : {e : Ex} → Makes (function func.UnixMicro) (e ∷ []) (call func.UnixMicro (exs (e ∷ [])))
   aggregated : {n : AggName} {e : Ex} → Makes (aggregate n) (e ∷ []) (agg n e)
   truncated : {p : Part} {e : Ex} → Makes (truncation p) (e ∷ []) (trunc p e)
   extracted : {p : Part} {e : Ex} → Makes (extraction p) (e ∷ []) (extract p e)
@@ -175,7 +176,7 @@ mutual
     a_cast : {n : List ℕ} {c : CastTo} {e : Ex} {s t : Toks} → Chain lv.Or s e (mark m.As ∷ word n ∷ mark m.Close ∷ t) → cast_word n ≡ Some c → Prim (mark m.Cast ∷ mark m.Open ∷ s) (cast c e) t
     a_call : {n : List ℕ} {w : FunctionWord} {h : Head} {es : List Ex} {e : Ex} {s t u : Toks} → function_word n ≡ Some w → Opens w s h t → Exprs t es (mark m.Close ∷ u) → Makes h es e → Prim (word n ∷ mark m.Open ∷ s) e u
     a_match : {n : List ℕ} {w : FunctionWord} {h : How} {e : Ex} {p : List ℕ} {s t : Toks} → function_word n ≡ Some w → Matches w h → Chain lv.Or s e (mark m.Comma ∷ string p ∷ mark m.Close ∷ t) → Prim (word n ∷ mark m.Open ∷ s) (matching h e p) t
-    a_count : {n : List ℕ} {s : Toks} → function_word n ≡ Some f.Count → Prim (word n ∷ mark m.Open ∷ mark m.Star ∷ mark m.Close ∷ s) (agg_of_rows aggs.count_all) s
+    a_count : {n : List ℕ} {s : Toks} → function_word n ≡ Some f.Count → Prim (word n ∷ mark m.Open ∷ mark m.Star ∷ mark m.Close ∷ s) (agg_of_rows aggs.CountAll) s
 
   pub data Whens : Toks → Arms → Toks → Type 0 where
     last_when : {a b : Ex} {s t u : Toks} → Chain lv.Or s a (mark m.Then ∷ t) → Chain lv.Or t b u → Whens (mark m.When ∷ s) (arm a b no_arms) u

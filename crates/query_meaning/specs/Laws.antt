@@ -1,12 +1,12 @@
 -- Laws of the grammar.
 use Rattle.std.specs.Prelude.{◌≡◌, ℕ, List, Some, Ok}
-use Rattle.query_meaning.specs.Tree.{Query}
+use Rattle.tree_meaning.specs.Tree.{Query}
 use Rattle.query_meaning.specs.Tokens.{Toks, tokens_in}
 use Rattle.query_meaning.specs.Grammar.{IsQuery}
 use Rattle.query_meaning.specs.Reading.{query_of}
 use Rattle.query_meaning.specs.Lexing.{Span, spans_of}
 use Rattle.query_meaning.specs.Faults.{Verdict, ComesTo}
-use Rattle.query_meaning.specs.WellFormed.{IsWellFormed}
+use Rattle.tree_meaning.specs.WellFormed.{IsWellFormed}
 
 abbrev pub OneQuery : Type 0
 OneQuery = (p q : Query) (ts : Toks) → IsQuery ts p → IsQuery ts q → p ≡ q

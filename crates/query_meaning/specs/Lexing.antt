@@ -2,6 +2,7 @@
 use Rattle.std.specs.Prelude.{ℕ, zero, suc, ◌+◌, ◌-◌, ◌*◌, List, [], ◌∷◌, length, drop, take, Bool, true, false, ◌||◌, ◌&&◌, ◌==◌, nat_le, nat_lt, if◌then◌else◌, Option, Some, None, is_some, Result, Ok, Err}
 use Rattle.std.specs.Option.{option_map}
 use Rattle.time_meaning.specs.Texts.{time_of}
+use Rattle.tree_meaning.specs.Decimals.{decimal_on}
 use Rattle.query_meaning.specs.declared.TokenKind.{TokenKind}
 use Rattle.query_meaning.specs.declared.TokenKind.TheVariants as k
 use Rattle.query_meaning.specs.declared.Mark.{Mark}
@@ -25,11 +26,6 @@ is_word_byte b = starts_word b || is_digit b
 abbrev pub run : (ℕ → Bool) → List ℕ → ℕ
 run p [] = 0
 run p (b ∷ bs) = if p b then suc (run p bs) else 0
-
--- the decimal number behind the digits so far
-abbrev pub decimal_on : ℕ → List ℕ → ℕ
-decimal_on so_far [] = so_far
-decimal_on so_far (b ∷ bs) = decimal_on (so_far * 10 + (b - 48)) bs
 
 -- the number that digits spell, if it is at most 2 ^ 63 - 1
 unfoldable pub number_of : List ℕ → Option ℕ

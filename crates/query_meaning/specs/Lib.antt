@@ -1,12 +1,3 @@
-pub mod BinOp
-pub mod IsWhat
-pub mod How
-pub mod CastTo
-pub mod Func
-pub mod Part
-pub mod AggName
-pub mod Tree
-pub mod Code
 pub mod Words
 pub mod Lexing
 pub mod Tokens
@@ -14,5 +5,4 @@ pub mod RowName
 pub mod Grammar
 pub mod Reading
 pub mod Faults
-pub mod WellFormed
 pub mod Laws

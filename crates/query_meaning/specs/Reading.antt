@@ -11,17 +11,18 @@ use Rattle.query_meaning.specs.declared.FunctionWord.{FunctionWord}
 use Rattle.query_meaning.specs.declared.FunctionWord.TheVariants as f
 use Rattle.query_meaning.specs.declared.Level.{Level}
 use Rattle.query_meaning.specs.declared.Level.TheVariants as lv
-use Rattle.query_meaning.specs.BinOp.{BinOp}
-use Rattle.query_meaning.specs.BinOp as op
-use Rattle.query_meaning.specs.IsWhat.{IsWhat}
-use Rattle.query_meaning.specs.IsWhat as what
-use Rattle.query_meaning.specs.How.{How}
-use Rattle.query_meaning.specs.How as how
-use Rattle.query_meaning.specs.Func.{Func}
-use Rattle.query_meaning.specs.Func as func
-use Rattle.query_meaning.specs.Part.{Part, is_cut_to, is_extracted, is_added}
-use Rattle.query_meaning.specs.AggName as aggs
-use Rattle.query_meaning.specs.Tree.{Step, name, at, Ex, Arms, lit, path, neg, no, bin, is, member, between, matching, choice, cast, call, trunc, extract, shift, agg_of_rows, agg, exs, no_arms, arm, Outs, star, named, Query}
+use Rattle.tree_meaning.specs.declared.BinOp.{BinOp}
+use Rattle.tree_meaning.specs.declared.BinOp.TheVariants as op
+use Rattle.tree_meaning.specs.declared.IsWhat.{IsWhat}
+use Rattle.tree_meaning.specs.declared.IsWhat.TheVariants as what
+use Rattle.tree_meaning.specs.declared.How.{How}
+use Rattle.tree_meaning.specs.declared.How.TheVariants as how
+use Rattle.tree_meaning.specs.declared.Func.{Func}
+use Rattle.tree_meaning.specs.declared.Func.TheVariants as func
+use Rattle.tree_meaning.specs.declared.Part.{Part}
+use Rattle.tree_meaning.specs.Parts.{is_cut_to, is_extracted, is_added}
+use Rattle.tree_meaning.specs.declared.AggName.TheVariants as aggs
+use Rattle.tree_meaning.specs.Tree.{Step, name, at, Ex, Arms, lit, path, neg, no, bin, is, member, between, matching, choice, cast, call, trunc, extract, shift, agg_of_rows, agg, exs, no_arms, arm, Outs, star, named, Query}
 use Rattle.query_meaning.specs.Words.{function_word, part_word, cast_word}
 use Rattle.query_meaning.specs.Tokens.{Tok, Toks, mark, word, quoted, string, moment, num, no_token}
 use Rattle.query_meaning.specs.Grammar.{Head, function, aggregate, truncation, extraction, addition, skip_of}
@@ -66,22 +67,22 @@ said say (no_token ∷ ts) = None
 
 -- the operator of a level that a mark is
 abbrev pub or_op : Mark → Option BinOp
-or_op m.Or = Some op.either
+or_op m.Or = Some op.Or
 or_op _ = None
 
 abbrev pub and_op : Mark → Option BinOp
-and_op m.And = Some op.both
+and_op m.And = Some op.And
 and_op _ = None
 
 abbrev pub sum_op : Mark → Option BinOp
-sum_op m.Plus = Some op.add
-sum_op m.Minus = Some op.sub
+sum_op m.Plus = Some op.Add
+sum_op m.Minus = Some op.Sub
 sum_op _ = None
 
 abbrev pub term_op : Mark → Option BinOp
-term_op m.Star = Some op.mul
-term_op m.Slash = Some op.div
-term_op m.Percent = Some op.rem
+term_op m.Star = Some op.Mul
+term_op m.Slash = Some op.Div
+term_op m.Percent = Some op.Rem
 term_op _ = None
 
 abbrev pub op_of : Level → Mark → Option BinOp
@@ -91,24 +92,24 @@ op_of lv.Sum k = sum_op k
 op_of lv.Term k = term_op k
 
 abbrev pub compare_of : Mark → Option BinOp
-compare_of m.Equal = Some op.eq
-compare_of m.Unequal = Some op.ne
-compare_of m.Less = Some op.lt
-compare_of m.AtMost = Some op.le
-compare_of m.Greater = Some op.gt
-compare_of m.AtLeast = Some op.ge
+compare_of m.Equal = Some op.Eq
+compare_of m.Unequal = Some op.Ne
+compare_of m.Less = Some op.Lt
+compare_of m.AtMost = Some op.Le
+compare_of m.Greater = Some op.Gt
+compare_of m.AtLeast = Some op.Ge
 compare_of _ = None
 
 abbrev pub what_of : Mark → Option IsWhat
-what_of m.Null = Some what.null
-what_of m.Missing = Some what.missing
-what_of m.True = Some what.truth
-what_of m.False = Some what.falsehood
+what_of m.Null = Some what.Null
+what_of m.Missing = Some what.Missing
+what_of m.True = Some what.True
+what_of m.False = Some what.False
 what_of _ = None
 
 abbrev pub how_of : Mark → Option How
-how_of m.Like = Some how.like
-how_of m.ILike = Some how.ilike
+how_of m.Like = Some how.Like
+how_of m.ILike = Some how.ILike
 how_of _ = None
 
 abbrev pub literal_of : Mark → Option Val
@@ -330,9 +331,9 @@ cast_by f ts = after m.Open ts >>= λ r. f r >>= λ x. cast_end x.0 x.1
 
 -- how a word matches
 abbrev pub match_of : FunctionWord → Option How
-match_of f.StartsWith = Some how.starts
-match_of f.EndsWith = Some how.ends
-match_of f.Contains = Some how.contains
+match_of f.StartsWith = Some how.Starts
+match_of f.EndsWith = Some how.Ends
+match_of f.Contains = Some how.Contains
 match_of _ = None
 
 -- a part that the function takes, and the mark behind it
@@ -344,52 +345,52 @@ unfoldable pub head_at : FunctionWord → Reader Head
 head_at f.DateTrunc ts = option_map (λ x. (truncation x.0, x.1)) (part_at is_cut_to m.Comma ts)
 head_at f.Extract ts = option_map (λ x. (extraction x.0, x.1)) (part_at is_extracted m.From ts)
 head_at f.DateAdd ts = option_map (λ x. (addition x.0, x.1)) (part_at is_added m.Comma ts)
-head_at f.Coalesce ts = Some (function func.coalesce, ts)
-head_at f.NullIf ts = Some (function func.null_if, ts)
-head_at f.CharLength ts = Some (function func.char_length, ts)
-head_at f.ToUnixEpoch ts = Some (function func.unix_epoch, ts)
-head_at f.ToUnixMicro ts = Some (function func.unix_micro, ts)
+head_at f.Coalesce ts = Some (function func.Coalesce, ts)
+head_at f.NullIf ts = Some (function func.NullIf, ts)
+head_at f.CharLength ts = Some (function func.CharLength, ts)
+head_at f.ToUnixEpoch ts = Some (function func.UnixEpoch, ts)
+head_at f.ToUnixMicro ts = Some (function func.UnixMicro, ts)
 head_at f.StartsWith ts = None
 head_at f.EndsWith ts = None
 head_at f.Contains ts = None
-head_at f.Count ts = Some (aggregate aggs.count, ts)
-head_at f.Sum ts = Some (aggregate aggs.sum, ts)
-head_at f.Min ts = Some (aggregate aggs.min, ts)
-head_at f.Max ts = Some (aggregate aggs.max, ts)
-head_at f.Avg ts = Some (aggregate aggs.avg, ts)
-head_at f.Earliest ts = Some (aggregate aggs.earliest, ts)
-head_at f.Latest ts = Some (aggregate aggs.latest, ts)
-head_at f.BoolAnd ts = Some (aggregate aggs.bool_and, ts)
-head_at f.BoolOr ts = Some (aggregate aggs.bool_or, ts)
+head_at f.Count ts = Some (aggregate aggs.Count, ts)
+head_at f.Sum ts = Some (aggregate aggs.Sum, ts)
+head_at f.Min ts = Some (aggregate aggs.Min, ts)
+head_at f.Max ts = Some (aggregate aggs.Max, ts)
+head_at f.Avg ts = Some (aggregate aggs.Avg, ts)
+head_at f.Earliest ts = Some (aggregate aggs.Earliest, ts)
+head_at f.Latest ts = Some (aggregate aggs.Latest, ts)
+head_at f.BoolAnd ts = Some (aggregate aggs.BoolAnd, ts)
+head_at f.BoolOr ts = Some (aggregate aggs.BoolOr, ts)
 
 abbrev pub made_one : Head → Ex → Option Ex
-made_one (function func.coalesce) e = Some (call func.coalesce (exs (e ∷ [])))
-made_one (function func.null_if) e = None
-made_one (function func.char_length) e = Some (call func.char_length (exs (e ∷ [])))
-made_one (function func.unix_epoch) e = Some (call func.unix_epoch (exs (e ∷ [])))
-made_one (function func.unix_micro) e = Some (call func.unix_micro (exs (e ∷ [])))
+made_one (function func.Coalesce) e = Some (call func.Coalesce (exs (e ∷ [])))
+made_one (function func.NullIf) e = None
+made_one (function func.CharLength) e = Some (call func.CharLength (exs (e ∷ [])))
+made_one (function func.UnixEpoch) e = Some (call func.UnixEpoch (exs (e ∷ [])))
+made_one (function func.UnixMicro) e = Some (call func.UnixMicro (exs (e ∷ [])))
 made_one (aggregate n) e = Some (agg n e)
 made_one (truncation p) e = Some (trunc p e)
 made_one (extraction p) e = Some (extract p e)
 made_one (addition p) e = None
 
 abbrev pub made_two : Head → Ex → Ex → Option Ex
-made_two (function func.coalesce) a b = Some (call func.coalesce (exs (a ∷ b ∷ [])))
-made_two (function func.null_if) a b = Some (call func.null_if (exs (a ∷ b ∷ [])))
-made_two (function func.char_length) a b = None
-made_two (function func.unix_epoch) a b = None
-made_two (function func.unix_micro) a b = None
+made_two (function func.Coalesce) a b = Some (call func.Coalesce (exs (a ∷ b ∷ [])))
+made_two (function func.NullIf) a b = Some (call func.NullIf (exs (a ∷ b ∷ [])))
+made_two (function func.CharLength) a b = None
+made_two (function func.UnixEpoch) a b = None
+made_two (function func.UnixMicro) a b = None
 made_two (aggregate n) a b = None
 made_two (truncation p) a b = None
 made_two (extraction p) a b = None
 made_two (addition p) a b = Some (shift p a b)
 
 abbrev pub made_many : Head → List Ex → Option Ex
-made_many (function func.coalesce) es = Some (call func.coalesce (exs es))
-made_many (function func.null_if) es = None
-made_many (function func.char_length) es = None
-made_many (function func.unix_epoch) es = None
-made_many (function func.unix_micro) es = None
+made_many (function func.Coalesce) es = Some (call func.Coalesce (exs es))
+made_many (function func.NullIf) es = None
+made_many (function func.CharLength) es = None
+made_many (function func.UnixEpoch) es = None
+made_many (function func.UnixMicro) es = None
 made_many (aggregate n) es = None
 made_many (truncation p) es = None
 made_many (extraction p) es = None
@@ -423,7 +424,7 @@ rows_at _ ts = None
 unfoldable pub call_by : Reader Ex → ℕ → FunctionWord → Reader Ex
 call_by f n w ts =
     match_option (rows_at w ts) (match_option (match_of w) (args_by f n w ts) (λ h. match_by f h ts))
-    (λ r. option_map (λ t. (agg_of_rows aggs.count_all, t)) (after m.Close r))
+    (λ r. option_map (λ t. (agg_of_rows aggs.CountAll, t)) (after m.Close r))
 
 -- what begins with this mark
 unfoldable pub marked_by : Reader Ex → ℕ → Mark → Reader Ex

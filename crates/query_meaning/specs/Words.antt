@@ -6,10 +6,10 @@ use Rattle.query_meaning.specs.declared.Mark.{Mark}
 use Rattle.query_meaning.specs.declared.Mark.TheVariants as m
 use Rattle.query_meaning.specs.declared.FunctionWord.{FunctionWord}
 use Rattle.query_meaning.specs.declared.FunctionWord.TheVariants as f
-use Rattle.query_meaning.specs.CastTo.{CastTo}
-use Rattle.query_meaning.specs.CastTo as to
-use Rattle.query_meaning.specs.Part.{Part}
-use Rattle.query_meaning.specs.Part as part
+use Rattle.tree_meaning.specs.declared.CastTo.{CastTo}
+use Rattle.tree_meaning.specs.declared.CastTo.TheVariants as to
+use Rattle.tree_meaning.specs.declared.Part.{Part}
+use Rattle.tree_meaning.specs.declared.Part.TheVariants as part
 
 -- as it is printed
 abbrev pub mark_text : Mark → List ℕ
@@ -115,29 +115,29 @@ unfoldable pub function_word : List ℕ → Option FunctionWord
 function_word w = find (λ k. str_eq_ignore_ascii_case (function_text k) w) functions
 
 abbrev pub part_text : Part → List ℕ
-part_text part.microsecond = codes "MICROSECOND"
-part_text part.second = codes "SECOND"
-part_text part.minute = codes "MINUTE"
-part_text part.hour = codes "HOUR"
-part_text part.day = codes "DAY"
-part_text part.week = codes "WEEK"
-part_text part.month = codes "MONTH"
-part_text part.quarter = codes "QUARTER"
-part_text part.year = codes "YEAR"
+part_text part.Microsecond = codes "MICROSECOND"
+part_text part.Second = codes "SECOND"
+part_text part.Minute = codes "MINUTE"
+part_text part.Hour = codes "HOUR"
+part_text part.Day = codes "DAY"
+part_text part.Week = codes "WEEK"
+part_text part.Month = codes "MONTH"
+part_text part.Quarter = codes "QUARTER"
+part_text part.Year = codes "YEAR"
 
 abbrev pub parts : List Part
-parts = part.microsecond ∷ part.second ∷ part.minute ∷ part.hour ∷ part.day ∷ part.week ∷ part.month ∷ part.quarter ∷ part.year ∷ []
+parts = part.Microsecond ∷ part.Second ∷ part.Minute ∷ part.Hour ∷ part.Day ∷ part.Week ∷ part.Month ∷ part.Quarter ∷ part.Year ∷ []
 
 -- the part of a time that the word names
 unfoldable pub part_word : List ℕ → Option Part
 part_word w = find (λ k. str_eq_ignore_ascii_case (part_text k) w) parts
 
 abbrev pub cast_text : CastTo → List ℕ
-cast_text to.integer = codes "INTEGER"
-cast_text to.boolean = codes "BOOLEAN"
+cast_text to.Integer = codes "INTEGER"
+cast_text to.Boolean = codes "BOOLEAN"
 
 abbrev pub casts : List CastTo
-casts = to.integer ∷ to.boolean ∷ []
+casts = to.Integer ∷ to.Boolean ∷ []
 
 -- what the word behind AS in a CAST names
 unfoldable pub cast_word : List ℕ → Option CastTo

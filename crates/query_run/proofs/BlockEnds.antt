@@ -7,7 +7,7 @@ use Rattle.block_meaning.specs.Tables.{Table}
 use Rattle.block_meaning.specs.Blocks.{IsBlock, IsDamaged}
 use Rattle.block_meaning.proofs.BlockReading.{one_list}
 use Rattle.file_meaning.specs.Files.{Entry, bytes_at}
-use Rattle.query_meaning.specs.Tree.{Query}
+use Rattle.tree_meaning.specs.Tree.{Query}
 use Rattle.time_index.specs.Answers.{Knows}
 use Rattle.query_run.specs.declared.query_fault.QueryFault.{QueryFault}
 use Rattle.query_run.specs.declared.query_fault.QueryFault.TheVariants.{Text, Absent, NotAFile, Damaged, ReadFault, WriteFault, OutOfMemory}

@@ -1,6 +1,6 @@
 -- The parts of a query of a form that is answered, and that a text isn't both accepted and refused.
 use Rattle.std.proofs.Common.{◌≡◌, ℕ, List, ap, subst, refl}
-use Rattle.query_meaning.specs.Tree.{Query}
+use Rattle.tree_meaning.specs.Tree.{Query}
 use Rattle.query_meaning.specs.Faults.{ComesTo, is_query}
 use Rattle.query_meaning.specs.Faults as text
 use Rattle.query_meaning.proofs.Verdicts.{verdict-one}

@@ -6,7 +6,7 @@ use Rattle.value_meaning.specs.Val.{Val}
 use Rattle.block_meaning.specs.Tables.{Table}
 use Rattle.block_meaning.specs.Blocks.{IsBlock}
 use Rattle.block_meaning.proofs.BlockReading.{one_list}
-use Rattle.query_meaning.specs.Tree.{Query}
+use Rattle.tree_meaning.specs.Tree.{Query}
 use Rattle.time_index.specs.Answers.{Knows}
 use Rattle.program_meaning.specs.Jobs.{Job}
 use Rattle.program_meaning.specs.Simulation.{Simulates}

@@ -9,7 +9,7 @@ use Rattle.block_meaning.specs.Tables.{Table}
 use Rattle.block_meaning.specs.Blocks.{IsBlock, block_in}
 use Rattle.block_meaning.proofs.BlockReading.{blocks_read, damaged_none, damaged_count}
 use Rattle.file_meaning.specs.Files.{Entry, IsFile, bytes_at, counted_rows, rows_at, rows_of}
-use Rattle.query_meaning.specs.Tree.{Query}
+use Rattle.tree_meaning.specs.Tree.{Query}
 use Rattle.query_run.specs.Queries.{Accepts}
 use Rattle.query_run.specs.Headline.{AddsAnswer, Headline}
 use Rattle.query_run.specs.Verdicts.{Verdict, no_block_file, bad_block, rows, EndsAs}

@@ -3,7 +3,7 @@ use Rattle.std.proofs.Common.{◌≡◌, ℕ, List, [], map, Option, Some, None,
 use Rattle.std.proofs.lemmas.List.{append-nil}
 use Rattle.std.specs.Io.KnownBytes.{Appends, Keeps}
 use Rattle.value_meaning.specs.Val.{Val}
-use Rattle.query_meaning.specs.Tree.{Query}
+use Rattle.tree_meaning.specs.Tree.{Query}
 use Rattle.eval_meaning.specs.Passed.{passed}
 use Rattle.made_meaning.specs.MadeRows.{output_of}
 use Rattle.answer_meaning.specs.Lines.{print}

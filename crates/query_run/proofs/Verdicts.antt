@@ -5,7 +5,7 @@ use Rattle.std.specs.Io.KnownBytes.{Appends}
 use Rattle.value_meaning.specs.Val.{Val}
 use Rattle.answer_meaning.specs.Made.{Output, Made}
 use Rattle.answer_meaning.specs.Answers.{IsAnswer}
-use Rattle.query_meaning.specs.Tree.{Ex, Query}
+use Rattle.tree_meaning.specs.Tree.{Ex, Query}
 use Rattle.eval_meaning.specs.Passed.{passed}
 use Rattle.made_meaning.specs.MadeRows.{made, made_row, output_of}
 use Rattle.query_run.specs.Queries.{Accepts}

@@ -4,7 +4,7 @@ use Rattle.std.specs.Io.KnownBytes.{Appends}
 use Rattle.snel_device.specs.Contents.{Contents}
 use Rattle.value_meaning.specs.Val.{Val}
 use Rattle.file_meaning.specs.Files.{Entry, IsFile, rows_of}
-use Rattle.query_meaning.specs.Tree.{Query}
+use Rattle.tree_meaning.specs.Tree.{Query}
 use Rattle.answer_meaning.specs.Made.{Output}
 use Rattle.answer_meaning.specs.Answers.{IsAnswer}
 use Rattle.answer_meaning.specs.Lines.{print}

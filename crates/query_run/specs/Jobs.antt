@@ -1,6 +1,6 @@
 -- The jobs of accepted texts.
 use Rattle.std.specs.Prelude.{ℕ, List}
-use Rattle.query_meaning.specs.Tree.{Query}
+use Rattle.tree_meaning.specs.Tree.{Query}
 use Rattle.program_meaning.specs.Jobs.{Job}
 use Rattle.program_meaning.specs.Simulation.{Simulates}
 use Rattle.query_run.specs.Queries.{Accepts}

@@ -1,6 +1,6 @@
 -- Which texts of queries are answered, and why the others aren't.
 use Rattle.std.specs.Prelude.{◌≡◌, ℕ, true, false, List, ⊤, None, Some}
-use Rattle.query_meaning.specs.Tree.{Query}
+use Rattle.tree_meaning.specs.Tree.{Query}
 use Rattle.query_meaning.specs.Faults as text
 use Rattle.query_meaning.specs.Faults.{ComesTo, is_query}
 use Rattle.check_meaning.specs.Fault.{Fault}

@@ -2,7 +2,7 @@
 use Rattle.std.specs.Prelude.{◌≡◌, ℕ, ◌+◌, ◌/◌, List, length, Option}
 use Rattle.snel_device.specs.Contents.{Contents}
 use Rattle.value_meaning.specs.Val.{Val}
-use Rattle.query_meaning.specs.Tree.{Query}
+use Rattle.tree_meaning.specs.Tree.{Query}
 use Rattle.eval_meaning.specs.Passed.{passed}
 use Rattle.query_run.specs.Queries.{Accepts}
 use Rattle.query_run.specs.Verdicts.{rows}

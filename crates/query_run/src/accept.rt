@@ -1,8 +1,8 @@
 //! From the text of a query to its acceptance.
 ghost use Rattle.std.specs.Prelude.{ℕ, List, IfOk, IfErr};
-ghost use Rattle.query_meaning.specs.Tree.{Query as QueryTree};
+ghost use Rattle.tree_meaning.specs.Tree.{Query as QueryTree};
 ghost use Rattle.query_meaning.specs.Faults.{ComesTo, is_query};
-ghost use Rattle.query_meaning.specs.WellFormed.{IsWellFormed};
+ghost use Rattle.tree_meaning.specs.WellFormed.{IsWellFormed};
 ghost use Rattle.check_meaning.specs.Verdict.{fault_of};
 ghost use Rattle.query_check.specs.Faults.{IsFirst};
 ghost use Rattle.sql_reader.specs.Reads.{IsFaultOf};

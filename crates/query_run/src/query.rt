@@ -3,7 +3,7 @@ ghost use Rattle.std.specs.Prelude.{◌≡◌, ℕ, List, true, map, IfOk, IsErr
 ghost use Rattle.snel_device.specs.Causes.{HasCause, Rose};
 ghost use Rattle.value_meaning.specs.Val.{Val};
 ghost use Rattle.block_meaning.specs.Blocks.{IsDamaged};
-ghost use Rattle.query_meaning.specs.Tree.{Query as QueryTree};
+ghost use Rattle.tree_meaning.specs.Tree.{Query as QueryTree};
 ghost use Rattle.eval_meaning.specs.Passed.{passed};
 ghost use Rattle.answer_meaning.specs.Lines.{print};
 ghost use Rattle.made_meaning.specs.MadeRows.{output_of};

@@ -2,7 +2,7 @@
 use Rattle.std.specs.Prelude.{◌≡◌, ℕ, List, Option, Some}
 use Rattle.snel_device.specs.Contents.{Contents}
 use Rattle.file_meaning.specs.Files.{Entry, IsFile, rows_of}
-use Rattle.query_meaning.specs.Tree.{Query}
+use Rattle.tree_meaning.specs.Tree.{Query}
 use Rattle.query_run.specs.Queries.{Accepts}
 use Rattle.query_run.specs.Headline.{AddsAnswer}
 use Rattle.snel_prog.specs.Words.{Ask, query}

@@ -8,7 +8,7 @@ use json_out::LineMaker;
 use snel_device::{MemFiles, MemOut, OpenGate, SteadyInput, SteadyOut};
 use snel_values::{Bytes, Items, Value};
 use sql_reader::read;
-use sql_tree::{Expr, OutItems, Outputs, Query};
+use query_tree::{Expr, OutItems, Outputs, Query};
 use std::alloc::Global;
 use std::process::Abort;
 use std::test::Fail;

@@ -3,7 +3,7 @@ ghost use Rattle.std.specs.Prelude.{◌≡◌, ◌≢◌, ◌⊎◌, List, ℕ, 
 ghost use Rattle.std.specs.Io.KnownBytes.{Appends, Keeps};
 ghost use Rattle.snel_device.specs.Causes.{Rose};
 ghost use Rattle.value_meaning.specs.Val.{Val};
-ghost use Rattle.query_meaning.specs.Tree.{Query};
+ghost use Rattle.tree_meaning.specs.Tree.{Query};
 ghost use Rattle.query_run.specs.Queries.{Refused, Refuses, Accepts, IsAccepted, IsRefused};
 ghost use Rattle.query_run.specs.Verdicts.{rows};
 ghost use Rattle.query_run.specs.Causes.{HasNoBlock, HasBadBlock};

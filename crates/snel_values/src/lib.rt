@@ -1,4 +1,4 @@
-//! Values, their order, and the small types that the query tree and the lanes share.
+//! Values, their order, and the small types that trees of queries and answers are made of.
 //!
 //! Each type of this crate is seen by contracts as a pure value of `value_meaning`:
 //! a [`Value`] by `view`, the others as lists.
@@ -8,7 +8,6 @@ mod bytes;
 mod items;
 mod made;
 mod memory;
-mod operators;
 mod ordering;
 mod pairs;
 mod steps;
@@ -20,7 +19,6 @@ pub use bytes::Bytes;
 pub use items::Items;
 pub use made::{MadeRow, MadeRows};
 pub use memory::OutOfMemory;
-pub use operators::{BinOp, CastTo, Func, How, IsWhat, Part};
 pub use ordering::{order, same};
 pub use pairs::Pairs;
 pub use steps::{Step, Steps};

@@ -2,8 +2,8 @@
 use Rattle.std.proofs.Common.{◌≡◌, ℕ, zero, suc, ◌+◌, ◌<◌, List, [], ◌∷◌, Some, ap, arith, sym}
 use Rattle.std.specs.Prelude.{slice_get, unwrap_or, All, Option, map}
 use Rattle.std.proofs.lemmas.List.Elements.{All-head, All-tail}
-use Rattle.query_meaning.specs.Tree.{Ex, size, exs, exs_size, arms, arms_size}
-use Rattle.query_meaning.specs.WellFormed.{IsFormed, AreFormed, ArmsAreFormed}
+use Rattle.tree_meaning.specs.Tree.{Ex, size, exs, exs_size, arms, arms_size}
+use Rattle.tree_meaning.specs.WellFormed.{IsFormed, AreFormed, ArmsAreFormed}
 
 some_is : {A : Type 0} (x y : A) → Some x ≡ Some y → x ≡ y
 some_is x y h = ap (λ (o : Option _). unwrap_or o x) h

@@ -1,7 +1,7 @@
 -- The texts of single steps of a path.
 use Rattle.std.proofs.Common.{◌≡◌, ℕ, List, [], ◌∷◌, ◌++◌, refl, ap, append-nil}
 use Rattle.std.specs.Prelude.{codes, decimal}
-use Rattle.query_meaning.specs.Tree.{name, at}
+use Rattle.tree_meaning.specs.Tree.{name, at}
 use Rattle.print_meaning.specs.Pieces.{in_quotes, spelling}
 use Rattle.print_meaning.specs.Texts.{steps_text}
 

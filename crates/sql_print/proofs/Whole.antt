@@ -1,7 +1,7 @@
 -- The text of a query in three parts.
 use Rattle.std.proofs.Common.{◌≡◌, ◌∙◌, ℕ, List, [], ◌++◌, sym, append_assoc}
 use Rattle.std.specs.Prelude.{codes}
-use Rattle.query_meaning.specs.Tree.{Query}
+use Rattle.tree_meaning.specs.Tree.{Query}
 use Rattle.query_meaning.specs.RowName.{row_name}
 use Rattle.print_meaning.specs.Pieces.{in_quotes}
 use Rattle.print_meaning.specs.Print.{skipped, query_text}

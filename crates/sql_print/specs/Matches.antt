@@ -1,18 +1,18 @@
 -- How a match is written: before what is matched, and between that and the text.
 use Rattle.std.specs.Prelude.{ℕ, List, codes}
-use Rattle.query_meaning.specs.How.{How}
-use Rattle.query_meaning.specs.How as how
+use Rattle.tree_meaning.specs.declared.How.{How}
+use Rattle.tree_meaning.specs.declared.How.TheVariants as how
 
 abbrev pub before : How → List ℕ
-before how.like = codes "("
-before how.ilike = codes "("
-before how.starts = codes "STARTS_WITH("
-before how.ends = codes "ENDS_WITH("
-before how.contains = codes "CONTAINS("
+before how.Like = codes "("
+before how.ILike = codes "("
+before how.Starts = codes "STARTS_WITH("
+before how.Ends = codes "ENDS_WITH("
+before how.Contains = codes "CONTAINS("
 
 abbrev pub between : How → List ℕ
-between how.like = codes " LIKE "
-between how.ilike = codes " ILIKE "
-between how.starts = codes ", "
-between how.ends = codes ", "
-between how.contains = codes ", "
+between how.Like = codes " LIKE "
+between how.ILike = codes " ILIKE "
+between how.Starts = codes ", "
+between how.Ends = codes ", "
+between how.Contains = codes ", "

@@ -1,15 +1,15 @@
 ghost use Rattle.std.specs.Prelude.{◌≡◌, ℕ, ◌++◌, codes, IfSome, OnOk, All};
 ghost use Rattle.std.specs.Option.{option_map};
-ghost use Rattle.query_meaning.specs.WellFormed.{IsFormed, IsKey};
+ghost use Rattle.tree_meaning.specs.WellFormed.{IsFormed, IsKey};
 ghost use Rattle.print_meaning.specs.Print.{skipped};
 ghost use Rattle.print_meaning.specs.Texts as texts;
-ghost use Rattle.sql_tree.specs.View.{view};
+ghost use Rattle.query_tree.specs.View.{view};
 
 use crate::exprs::{put_expr, put_exprs};
 use crate::lists::put_keys;
 use crate::pieces::{put, put_digits};
 use snel_values::{Bytes, OutOfMemory};
-use sql_tree::{Expr, Exprs, OrderKeys};
+use query_tree::{Expr, Exprs, OrderKeys};
 
 /// Adds the words and the expression, if there is one.
 pub(crate) fn put_clause(

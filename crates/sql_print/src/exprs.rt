@@ -1,11 +1,10 @@
 ghost use Rattle.std.specs.Prelude.{◌≡◌, ◌++◌, codes, OnOk};
-ghost use Rattle.query_meaning.specs.Tree as tree;
+ghost use Rattle.tree_meaning.specs.Tree as tree;
 ghost use Rattle.query_meaning.specs.Words.{function_text};
-ghost use Rattle.query_meaning.specs.WellFormed.{IsFormed, AreFormed, ArmsAreFormed};
+ghost use Rattle.tree_meaning.specs.WellFormed.{IsFormed, AreFormed, ArmsAreFormed};
 ghost use Rattle.print_meaning.specs.Print.{agg_word};
 ghost use Rattle.print_meaning.specs.Texts as texts;
-ghost use Rattle.sql_tree.specs.Names.{op_view, what_view, how_view, to_view, func_view, part_view, agg_view};
-ghost use Rattle.sql_tree.specs.View.{view, arm_view};
+ghost use Rattle.query_tree.specs.View.{view, arm_view};
 
 use crate::literals::put_literal;
 use crate::paths::put_path;
@@ -15,9 +14,10 @@ use crate::quotes::put_string;
 use crate::words::{
     agg_name, cast_word, func_name, match_before, match_between, op_words, part_name, what_word,
 };
-use agg_laws::AggName;
-use snel_values::{BinOp, Bytes, CastTo, Func, How, IsWhat, OutOfMemory, Part, Text};
-use sql_tree::{Arm, Arms, Expr, Exprs, Operand};
+use tree_meaning::AggName;
+use snel_values::{Bytes, OutOfMemory, Text};
+use tree_meaning::{BinOp, CastTo, Func, How, IsWhat, Part};
+use query_tree::{Arm, Arms, Expr, Exprs, Operand};
 
 /// Adds the expression of a query whose row has this name. Each form has a function of its own, so that the frames of a
 /// deep tree are small.
@@ -100,7 +100,7 @@ fn put_bin(
     right: &Operand,
 ) -> Result<(), OutOfMemory>
     requires { IsFormed left.now × IsFormed right.now }
-    ensures { OnOk result (text.new ≡ text.old ++ texts.text row.now (tree.bin (op_view op) left.now right.now)) }
+    ensures { OnOk result (text.new ≡ text.old ++ texts.text row.now (tree.bin op left.now right.now)) }
 {
     put_within(text, "(", row, left, op_words(op))?;
     put_within(text, "", row, right, ")")
@@ -111,7 +111,7 @@ fn put_bin(
 #[tactic(auto, using(print_meaning::proofs::PrintedTexts::is_text))]
 fn put_is(text: &mut Bytes, row: &str, what: IsWhat, of: &Operand) -> Result<(), OutOfMemory>
     requires { IsFormed of.now }
-    ensures { OnOk result (text.new ≡ text.old ++ texts.text row.now (tree.is (what_view what) of.now)) }
+    ensures { OnOk result (text.new ≡ text.old ++ texts.text row.now (tree.is what of.now)) }
 {
     put_within(text, "(", row, of, " IS ")?;
     put(text, what_word(what))?;
@@ -160,7 +160,7 @@ fn put_match(
     matched: &Text,
 ) -> Result<(), OutOfMemory>
     requires { IsFormed of.now }
-    ensures { OnOk result (text.new ≡ text.old ++ texts.text row.now (tree.matching (how_view how) of.now matched.now)) }
+    ensures { OnOk result (text.new ≡ text.old ++ texts.text row.now (tree.matching how of.now matched.now)) }
 {
     put_within(text, match_before(how), row, of, match_between(how))?;
     put_string(text, matched.as_str())?;
@@ -185,7 +185,7 @@ fn put_case(text: &mut Bytes, row: &str, arms: &Arms, other: &Operand) -> Result
 #[tactic(auto, using(print_meaning::proofs::PrintedTexts::cast_call_text))]
 fn put_cast(text: &mut Bytes, row: &str, of: &Operand, to: CastTo) -> Result<(), OutOfMemory>
     requires { IsFormed of.now }
-    ensures { OnOk result (text.new ≡ text.old ++ texts.text row.now (tree.cast (to_view to) of.now)) }
+    ensures { OnOk result (text.new ≡ text.old ++ texts.text row.now (tree.cast to of.now)) }
 {
     put_within(text, "CAST(", row, of, " AS ")?;
     put(text, cast_word(to))?;
@@ -197,7 +197,7 @@ fn put_cast(text: &mut Bytes, row: &str, of: &Operand, to: CastTo) -> Result<(),
 #[tactic(auto, using(print_meaning::proofs::PrintedTexts::call_text))]
 fn put_call(text: &mut Bytes, row: &str, name: Func, args: &Exprs) -> Result<(), OutOfMemory>
     requires { AreFormed (tree.exs args.now) }
-    ensures { OnOk result (text.new ≡ text.old ++ texts.text row.now (tree.call (func_view name) (tree.exs args.now))) }
+    ensures { OnOk result (text.new ≡ text.old ++ texts.text row.now (tree.call name (tree.exs args.now))) }
 {
     put(text, func_name(name))?;
     put(text, "(")?;
@@ -210,7 +210,7 @@ fn put_call(text: &mut Bytes, row: &str, name: Func, args: &Exprs) -> Result<(),
 #[tactic(auto, using(print_meaning::proofs::PrintedTexts::trunc_text))]
 fn put_trunc(text: &mut Bytes, row: &str, part: Part, of: &Operand) -> Result<(), OutOfMemory>
     requires { IsFormed of.now }
-    ensures { OnOk result (text.new ≡ text.old ++ texts.text row.now (tree.trunc (part_view part) of.now)) }
+    ensures { OnOk result (text.new ≡ text.old ++ texts.text row.now (tree.trunc part of.now)) }
 {
     put(text, "DATE_TRUNC(")?;
     put(text, part_name(part))?;
@@ -222,7 +222,7 @@ fn put_trunc(text: &mut Bytes, row: &str, part: Part, of: &Operand) -> Result<()
 #[tactic(auto, using(print_meaning::proofs::PrintedTexts::extract_text))]
 fn put_extract(text: &mut Bytes, row: &str, part: Part, of: &Operand) -> Result<(), OutOfMemory>
     requires { IsFormed of.now }
-    ensures { OnOk result (text.new ≡ text.old ++ texts.text row.now (tree.extract (part_view part) of.now)) }
+    ensures { OnOk result (text.new ≡ text.old ++ texts.text row.now (tree.extract part of.now)) }
 {
     put(text, "EXTRACT(")?;
     put(text, part_name(part))?;
@@ -240,7 +240,7 @@ fn put_shift(
     of: &Operand,
 ) -> Result<(), OutOfMemory>
     requires { IsFormed count.now × IsFormed of.now }
-    ensures { OnOk result (text.new ≡ text.old ++ texts.text row.now (tree.shift (part_view part) count.now of.now)) }
+    ensures { OnOk result (text.new ≡ text.old ++ texts.text row.now (tree.shift part count.now of.now)) }
 {
     put(text, "DATE_ADD(")?;
     put(text, part_name(part))?;
@@ -250,7 +250,7 @@ fn put_shift(
 
 /// Adds the call of an aggregate of rows.
 fn put_count_of_rows(text: &mut Bytes, name: AggName) -> Result<(), OutOfMemory>
-    ensures { OnOk result (text.new ≡ text.old ++ (function_text (agg_word (agg_view name)) ++ codes "(*)")) }
+    ensures { OnOk result (text.new ≡ text.old ++ (function_text (agg_word name) ++ codes "(*)")) }
 {
     put(text, agg_name(name))?;
     put(text, "(*)")
@@ -261,7 +261,7 @@ fn put_count_of_rows(text: &mut Bytes, name: AggName) -> Result<(), OutOfMemory>
 #[tactic(auto, using(print_meaning::proofs::PrintedTexts::agg_text))]
 fn put_agg(text: &mut Bytes, row: &str, name: AggName, of: &Operand) -> Result<(), OutOfMemory>
     requires { IsFormed of.now }
-    ensures { OnOk result (text.new ≡ text.old ++ texts.text row.now (tree.agg (agg_view name) of.now)) }
+    ensures { OnOk result (text.new ≡ text.old ++ texts.text row.now (tree.agg name of.now)) }
 {
     put(text, agg_name(name))?;
     put_within(text, "(", row, of, ")")

@@ -1,16 +1,16 @@
 ghost use Rattle.std.specs.Prelude.{◌≡◌, ◌++◌, OnOk, All, Bool, codes, if◌then◌else◌, []};
-ghost use Rattle.query_meaning.specs.WellFormed.{IsFormed, IsOutput, IsKey, AreOutputs};
+ghost use Rattle.tree_meaning.specs.WellFormed.{IsFormed, IsOutput, IsKey, AreOutputs};
 ghost use Rattle.print_meaning.specs.Texts as texts;
-ghost use Rattle.sql_tree.specs.View.{view};
-ghost use Rattle.sql_tree.specs.Parts.{item_view, key_view};
-ghost use Rattle.sql_tree.specs.Queries.{outs_view};
+ghost use Rattle.query_tree.specs.View.{view};
+ghost use Rattle.query_tree.specs.Parts.{item_view, key_view};
+ghost use Rattle.query_tree.specs.Queries.{outs_view};
 
 use crate::exprs::put_expr;
 use crate::pieces::put;
 use crate::places::{item_at, key_at, put_separator};
 use crate::quotes::put_name;
 use snel_values::{Bytes, OutOfMemory, Text};
-use sql_tree::{Item, OrderKey, OrderKeys, OutItems, Outputs};
+use query_tree::{Item, OrderKey, OrderKeys, OutItems, Outputs};
 
 /// Adds AS and the name, if there is one.
 pub(crate) fn put_alias(text: &mut Bytes, name: &Option<Text>) -> Result<(), OutOfMemory>

@@ -1,7 +1,7 @@
 ghost use Rattle.std.specs.Prelude.{◌≡◌, [], ◌∷◌, ◌++◌, unsigned_abs, OnOk};
 ghost use Rattle.time_meaning.specs.Moments.{IsTime};
 ghost use Rattle.time_meaning.specs.Printed.{time_text};
-ghost use Rattle.query_meaning.specs.WellFormed.{IsLiteral};
+ghost use Rattle.tree_meaning.specs.WellFormed.{IsLiteral};
 ghost use Rattle.print_meaning.specs.Texts.{literal_text};
 ghost use Rattle.snel_values.specs.View.{view};
 

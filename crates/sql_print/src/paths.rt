@@ -1,7 +1,7 @@
 ghost use Rattle.std.specs.Prelude.{◌≡◌, [], ◌∷◌, ◌++◌, map, OnOk};
 ghost use Rattle.print_meaning.specs.Pieces.{in_quotes};
 ghost use Rattle.print_meaning.specs.Texts as texts;
-ghost use Rattle.sql_tree.specs.View.{step_view};
+ghost use Rattle.query_tree.specs.View.{step_view};
 
 use crate::pieces::{put, put_digits};
 use crate::quotes::put_name;

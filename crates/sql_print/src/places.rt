@@ -1,11 +1,11 @@
 ghost use Rattle.std.specs.Prelude.{◌≡◌, ◌++◌, ◌<◌, length, slice_get, Some, OnOk};
-ghost use Rattle.sql_tree.specs.View.{view, arm_view};
-ghost use Rattle.sql_tree.specs.Parts.{item_view, key_view};
+ghost use Rattle.query_tree.specs.View.{view, arm_view};
+ghost use Rattle.query_tree.specs.Parts.{item_view, key_view};
 ghost use Rattle.print_meaning.specs.Texts.{separator};
 
 use crate::pieces::put;
 use snel_values::{Bytes, OutOfMemory};
-use sql_tree::{Arm, Arms, Expr, Exprs, Item, OrderKey, OrderKeys, OutItems};
+use query_tree::{Arm, Arms, Expr, Exprs, Item, OrderKey, OrderKeys, OutItems};
 
 /// Adds what stands before the member of a list at a place, counted from 0.
 pub(crate) fn put_separator(text: &mut Bytes, at: usize) -> Result<(), OutOfMemory>

@@ -1,17 +1,17 @@
 ghost use Rattle.std.specs.Prelude.{◌≡◌, ◌++◌, codes, OnOk, IfOk};
-ghost use Rattle.query_meaning.specs.WellFormed.{IsWellFormed};
+ghost use Rattle.tree_meaning.specs.WellFormed.{IsWellFormed};
 ghost use Rattle.query_meaning.specs.RowName as names;
 ghost use Rattle.print_meaning.specs.Pieces.{in_quotes};
 ghost use Rattle.print_meaning.specs.Print.{query_text, skipped};
 ghost use Rattle.print_meaning.specs.Texts as texts;
-ghost use Rattle.sql_tree.specs.Queries.{query_view};
+ghost use Rattle.query_tree.specs.Queries.{query_view};
 
 use crate::clauses::{put_clause, put_count, put_groups, put_offset, put_order};
 use crate::lists::{put_alias, put_outputs};
 use crate::pieces::put;
 use crate::quotes::put_name;
 use snel_values::{Bytes, OutOfMemory};
-use sql_tree::Query;
+use query_tree::Query;
 use std::alloc::Global;
 
 /// The row's name: the second name after FROM, or the first where it stands alone.

@@ -2,15 +2,14 @@ ghost use Rattle.std.specs.Prelude.{◌≡◌};
 ghost use Rattle.query_meaning.specs.Words.{mark_text, function_text, part_text, cast_text};
 ghost use Rattle.print_meaning.specs.Print.{op_mark, what_mark, func_word, agg_word};
 ghost use Rattle.print_meaning.specs.Texts.{between_text};
-ghost use Rattle.sql_tree.specs.Names.{op_view, what_view, how_view, to_view, func_view, part_view, agg_view};
 ghost use Rattle.sql_print.specs.Matches as matches;
 
-use agg_laws::AggName;
-use snel_values::{BinOp, CastTo, Func, How, IsWhat, Part};
+use tree_meaning::AggName;
+use tree_meaning::{BinOp, CastTo, Func, How, IsWhat, Part};
 
 /// The operator, between spaces.
 pub(crate) fn op_words(op: BinOp) -> &'static str
-    ensures { result.now ≡ between_text (op_mark (op_view op)) }
+    ensures { result.now ≡ between_text (op_mark op) }
 {
     match op {
         BinOp::Add => " + ",
@@ -31,7 +30,7 @@ pub(crate) fn op_words(op: BinOp) -> &'static str
 
 /// The word behind IS.
 pub(crate) fn what_word(what: IsWhat) -> &'static str
-    ensures { result.now ≡ mark_text (what_mark (what_view what)) }
+    ensures { result.now ≡ mark_text (what_mark what) }
 {
     match what {
         IsWhat::Null => "NULL",
@@ -43,7 +42,7 @@ pub(crate) fn what_word(what: IsWhat) -> &'static str
 
 /// What stands before the expression that is matched.
 pub(crate) fn match_before(how: How) -> &'static str
-    ensures { result.now ≡ matches.before (how_view how) }
+    ensures { result.now ≡ matches.before how }
 {
     match how {
         How::Like => "(",
@@ -56,7 +55,7 @@ pub(crate) fn match_before(how: How) -> &'static str
 
 /// What stands between the expression that is matched and the text.
 pub(crate) fn match_between(how: How) -> &'static str
-    ensures { result.now ≡ matches.between (how_view how) }
+    ensures { result.now ≡ matches.between how }
 {
     match how {
         How::Like => " LIKE ",
@@ -69,7 +68,7 @@ pub(crate) fn match_between(how: How) -> &'static str
 
 /// The type's name in a CAST.
 pub(crate) fn cast_word(to: CastTo) -> &'static str
-    ensures { result.now ≡ cast_text (to_view to) }
+    ensures { result.now ≡ cast_text to }
 {
     match to {
         CastTo::Integer => "INTEGER",
@@ -79,7 +78,7 @@ pub(crate) fn cast_word(to: CastTo) -> &'static str
 
 /// The function's name.
 pub(crate) fn func_name(name: Func) -> &'static str
-    ensures { result.now ≡ function_text (func_word (func_view name)) }
+    ensures { result.now ≡ function_text (func_word name) }
 {
     match name {
         Func::Coalesce => "COALESCE",
@@ -92,7 +91,7 @@ pub(crate) fn func_name(name: Func) -> &'static str
 
 /// The part's name.
 pub(crate) fn part_name(part: Part) -> &'static str
-    ensures { result.now ≡ part_text (part_view part) }
+    ensures { result.now ≡ part_text part }
 {
     match part {
         Part::Microsecond => "MICROSECOND",
@@ -109,7 +108,7 @@ pub(crate) fn part_name(part: Part) -> &'static str
 
 /// The aggregate's name.
 pub(crate) fn agg_name(name: AggName) -> &'static str
-    ensures { result.now ≡ function_text (agg_word (agg_view name)) }
+    ensures { result.now ≡ function_text (agg_word name) }
 {
     match name {
         AggName::CountAll => "COUNT",

@@ -2,9 +2,9 @@
 use Rattle.std.proofs.Common.{◌≡◌, ℕ, suc, ◌+◌, ◌-◌, ◌<◌, List, [], ◌∷◌, ◌++◌, Option, Some, None, refl, sym, ap, ◌∙◌, arith, append_assoc}
 use Rattle.std.specs.Option.{option_map}
 use Rattle.query_meaning.specs.declared.Mark.TheVariants as m
-use Rattle.query_meaning.specs.BinOp.{BinOp}
+use Rattle.tree_meaning.specs.declared.BinOp.{BinOp}
 use Rattle.query_meaning.specs.declared.Level.{Level}
-use Rattle.query_meaning.specs.Tree.{Step, Ex, bin, Arms, no_arms, arm, arms}
+use Rattle.tree_meaning.specs.Tree.{Step, Ex, bin, Arms, no_arms, arm, arms}
 use Rattle.query_meaning.specs.Tokens.{Toks}
 use Rattle.sql_reader.specs.declared.fault.ParseFault.{ParseFault}
 use Rattle.sql_reader.specs.declared.fault.ParseFault.TheVariants as fault

@@ -3,9 +3,9 @@ ghost use Rattle.std.specs.Option.{option_map};
 ghost use Rattle.query_meaning.specs.Reading as spec;
 ghost use Rattle.sql_reader.specs.Gives.{Gives};
 ghost use Rattle.sql_reader.specs.Seen.{toks};
-ghost use Rattle.sql_tree.specs.Parts.{item_view, key_view};
-ghost use Rattle.sql_tree.specs.Queries.{outs_view};
-ghost use Rattle.sql_tree.specs.View.{view};
+ghost use Rattle.query_tree.specs.Parts.{item_view, key_view};
+ghost use Rattle.query_tree.specs.Queries.{outs_view};
+ghost use Rattle.query_tree.specs.View.{view};
 
 use crate::fault::ParseFault;
 use crate::look::Look;
@@ -14,7 +14,7 @@ use crate::parse::{expr, list};
 use crate::steps::{after, expect};
 use query_meaning::Mark;
 use snel_values::Text;
-use sql_tree::{Expr, Exprs, Item, OrderKey, OrderKeys, OutItems, Outputs};
+use query_tree::{Expr, Exprs, Item, OrderKey, OrderKeys, OutItems, Outputs};
 use std::alloc::Global;
 
 /// A second name: a name, with or without AS before it, if there is one.

@@ -2,12 +2,11 @@ ghost use Rattle.std.specs.Prelude.{◌≡◌, drop};
 ghost use Rattle.std.specs.Option.{option_map};
 ghost use Rattle.query_meaning.specs.declared.Mark.TheVariants as m;
 ghost use Rattle.query_meaning.specs.Reading as spec;
-ghost use Rattle.query_meaning.specs.Tree as tree;
+ghost use Rattle.tree_meaning.specs.Tree as tree;
 ghost use Rattle.sql_reader.specs.Gives.{Gives};
 ghost use Rattle.sql_reader.specs.Seen.{toks};
 ghost use Rattle.sql_reader.specs.Tails.{compared, denied};
-ghost use Rattle.sql_tree.specs.Names.{op_view, how_view};
-ghost use Rattle.sql_tree.specs.View.{view};
+ghost use Rattle.query_tree.specs.View.{view};
 
 use crate::calls::made;
 use crate::fault::ParseFault;
@@ -20,10 +19,11 @@ use crate::quotes::undoubled;
 use crate::steps::{after, expect, skip, token};
 use crate::tails::{cast_end, is_at, like_at, match_end};
 use crate::wraps;
-use agg_laws::AggName;
+use tree_meaning::AggName;
 use query_meaning::{FunctionWord, Level, Mark};
-use snel_values::{BinOp, How, Text, Value};
-use sql_tree::{Arm, Arms, Expr, Exprs};
+use snel_values::{Text, Value};
+use tree_meaning::{BinOp, How};
+use query_tree::{Arm, Arms, Expr, Exprs};
 use std::alloc::Global;
 
 /// An expression, within which there is room for so many.
@@ -157,7 +157,7 @@ fn compared(
     at: usize,
 ) -> Result<(Expr, usize), ParseFault>
     ensures { Gives (λ x. (view x.0, drop x.1 (toks looks.now))) result
-        (option_map (compared (op_view op) (view of)) (spec.sum_by (spec.expr_at room) room (drop at (toks looks.now)))) }
+        (option_map (compared op (view of)) (spec.sum_by (spec.expr_at room) room (drop at (toks looks.now)))) }
 {
     let (right, behind) = chain(alloc, Level::Sum, room, looks, at)?;
     Ok((wraps::binary(alloc, op, of, right)?, behind))
@@ -383,7 +383,7 @@ fn matched(
     looks: &[Look<'_>],
     at: usize,
 ) -> Result<(Expr, usize), ParseFault>
-    ensures { Gives (λ x. (view x.0, drop x.1 (toks looks.now))) result (spec.match_by (spec.expr_at room) (how_view how) (drop at (toks looks.now))) }
+    ensures { Gives (λ x. (view x.0, drop x.1 (toks looks.now))) result (spec.match_by (spec.expr_at room) how (drop at (toks looks.now))) }
 {
     let (of, rest) = expr(alloc, room, looks, at)?;
     match_end(alloc, how, of, looks, rest)

@@ -4,7 +4,7 @@ ghost use Rattle.query_meaning.specs.Reading as spec;
 ghost use Rattle.sql_reader.specs.Gives.{Gives};
 ghost use Rattle.sql_reader.specs.PathForms.{begun, path_from};
 ghost use Rattle.sql_reader.specs.Seen.{toks};
-ghost use Rattle.sql_tree.specs.View.{view, step_view};
+ghost use Rattle.query_tree.specs.View.{view, step_view};
 
 use crate::fault::ParseFault;
 use crate::look::Look;
@@ -12,7 +12,7 @@ use crate::names::{name_at, num_at};
 use crate::steps::{after, expect};
 use query_meaning::Mark;
 use snel_values::{Step, Steps, Text};
-use sql_tree::Expr;
+use query_tree::Expr;
 use std::alloc::Global;
 
 /// The index that stands here, behind `[`, and the place behind `]`.

@@ -2,8 +2,7 @@ ghost use Rattle.std.specs.Prelude.{◌≡◌, drop};
 ghost use Rattle.query_meaning.specs.Reading as spec;
 ghost use Rattle.sql_reader.specs.Gives.{Gives};
 ghost use Rattle.sql_reader.specs.Seen.{toks};
-ghost use Rattle.sql_tree.specs.Names.{how_view};
-ghost use Rattle.sql_tree.specs.View.{view};
+ghost use Rattle.query_tree.specs.View.{view};
 
 use crate::fault::ParseFault;
 use crate::look::Look;
@@ -13,8 +12,8 @@ use crate::steps::{after, expect};
 use crate::words::cast_word;
 use crate::wraps;
 use query_meaning::Mark;
-use snel_values::How;
-use sql_tree::Expr;
+use tree_meaning::How;
+use query_tree::Expr;
 use std::alloc::Global;
 
 /// What follows IS.
@@ -83,7 +82,7 @@ pub(crate) fn match_end(
     looks: &[Look<'_>],
     at: usize,
 ) -> Result<(Expr, usize), ParseFault>
-    ensures { Gives (λ x. (view x.0, drop x.1 (toks looks.now))) result (spec.match_end (how_view how) (view of) (drop at (toks looks.now))) }
+    ensures { Gives (λ x. (view x.0, drop x.1 (toks looks.now))) result (spec.match_end how (view of) (drop at (toks looks.now))) }
 {
     let rest = expect(looks, at, Mark::Comma)?;
     let (text, rest) = string_at(alloc, looks, rest)?;

@@ -3,7 +3,8 @@ use Rattle.std.proofs.Common.{◌≡◌, ℕ, zero, suc, ◌+◌, ◌-◌, ◌*�
 use Rattle.std.specs.Prelude.{nat_le, ◌==◌}
 use Rattle.std.specs.Option.{option_map}
 use Rattle.std.proofs.lemmas.Bool.Decides.{nat_tests}
-use Rattle.query_meaning.specs.Lexing.{run, decimal_on, number_of, closing, or_one}
+use Rattle.query_meaning.specs.Lexing.{run, number_of, closing, or_one}
+use Rattle.tree_meaning.specs.Decimals.{decimal_on}
 
 -- a run that goes on, and one that ends, at a place
 pub run_on : (p : ℕ → Bool) (bs : List ℕ) (i : ℕ) → i < length bs → p (get_or bs i 0) ≡ true → run p (drop i bs) ≡ suc (run p (drop (i + 1) bs))
@@ -26,20 +27,6 @@ run_within p (b ∷ bs) = go (p b) (run_within p bs)
     go : (t : Bool) → run p bs ≤ length bs → cond t (suc (run p bs)) 0 ≤ length (b ∷ bs)
     go true h = omega arith
     go false h = omega arith
-
--- a number goes on with the digit at a place
-pub decimal_at : (bs : List ℕ) (i n : ℕ) → i < length bs → decimal_on n (drop i bs) ≡ decimal_on (n * 10 + (get_or bs i 0 - 48)) (drop (i + 1) bs)
-decimal_at bs i n h = rw add-one (go bs i h)
-  where
-    go : (bs : List ℕ) (i : ℕ) → i < length bs → decimal_on n (drop i bs) ≡ decimal_on (n * 10 + (get_or bs i 0 - 48)) (drop (suc i) bs)
-    go [] i h = absurd (omega arith)
-    go (b ∷ bs) zero h = refl
-    go (b ∷ bs) (suc i) h = go bs i (omega arith)
-
--- a number only grows
-pub decimal_grows : (bs : List ℕ) (n : ℕ) → n ≤ decimal_on n bs
-decimal_grows [] n = omega arith
-decimal_grows (b ∷ bs) n = omega (arith, decimal_grows bs (n * 10 + (b - 48)))
 
 pub too_large : (bs : List ℕ) (n : ℕ) → 9_223_372_036_854_775_807 < n → n ≤ decimal_on 0 bs → None ≡ number_of bs
 unfolding number_of
@@ -98,12 +85,3 @@ module _ (q : ℕ) where
       let two : i + 2 ≡ suc (suc i) = omega arith in
       let front : drop i bs ≡ get_or bs i 0 ∷ get_or bs (i + 1) 0 ∷ drop (i + 2) bs = drop-cons bs i 0 (omega arith) ∙ ap (λ (r : List ℕ). get_or bs i 0 ∷ r) (rw (one, two) (drop-cons bs (suc i) 0 (omega arith))) in
       rw front (double (get_or bs i 0) (get_or bs (i + 1) 0) (drop (i + 2) bs) c i (eq_test _ q e) (eq_test _ q f))
-
-pub past_end : (bs : List ℕ) (i n : ℕ) → length bs ≤ i → decimal_on 0 bs ≡ decimal_on n (drop i bs) → decimal_on 0 bs ≡ n
-past_end bs i n h e = e ∙ go bs i h
-  where
-    go : (bs : List ℕ) (i : ℕ) → length bs ≤ i → decimal_on n (drop i bs) ≡ n
-    go [] zero h = refl
-    go [] (suc i) h = refl
-    go (b ∷ bs) zero h = absurd (omega arith)
-    go (b ∷ bs) (suc i) h = go bs i (omega arith)

@@ -1,8 +1,8 @@
 use Rattle.std.proofs.Common.{◌≡◌, ◌+◌, ◌-◌, ◌*◌, ◌<◌, ◌≤◌, ℕ, List, None, false, refl, drop, arith, get_or}
 use Rattle.std.specs.Prelude.{nat_le}
 use Rattle.std.proofs.lemmas.Bool.Decides.{nat_tests}
-use Rattle.query_meaning.specs.Lexing.{decimal_on}
-use Rattle.sql_tree.proofs.LexSteps.{decimal_at, decimal_grows}
+use Rattle.tree_meaning.specs.Decimals.{decimal_on}
+use Rattle.tree_meaning.proofs.Decimals.{decimal_at, decimal_grows}
 use Rattle.eval_row.specs.Magnitude.{up_to_limit}
 use Rattle.eval_row.proofs.casts.magnitude.Goals as goal
 

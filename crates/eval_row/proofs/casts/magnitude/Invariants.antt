@@ -1,5 +1,5 @@
 use Rattle.std.proofs.Common.{◌≡◌, ◌≤◌, drop}
-use Rattle.query_meaning.specs.Lexing.{decimal_on}
+use Rattle.tree_meaning.specs.Decimals.{decimal_on}
 use Rattle.eval_row.proofs.casts.magnitude.Given as goal
 
 abbrev pub invariant-loop-digit : goal.invariant-loop-digit

@@ -1,6 +1,6 @@
 use Rattle.std.proofs.Common.{sym, ◌∙◌, arith}
 use Rattle.snel_values.specs.View.{view as value_view}
-use Rattle.sql_tree.specs.View.{view, arm_view}
+use Rattle.query_tree.specs.View.{view, arm_view}
 use Rattle.eval_meaning.specs.Evaluation.{eval}
 use Rattle.eval_row.proofs.Walking.{ex_is_smaller, test_is_smaller, evals_go_on, arm_holds, arm_fails}
 use Rattle.eval_row.proofs.evaluating.+eval.Goals as goal

@@ -1,7 +1,7 @@
 use Rattle.std.proofs.Common.{◌≡◌, ◌+◌, ◌*◌, ◌++◌, drop}
-use Rattle.query_meaning.specs.Tree.{size, exs, exs_size, arms, arms_size}
+use Rattle.tree_meaning.specs.Tree.{size, exs, exs_size, arms, arms_size}
 use Rattle.snel_values.specs.View.{view as value_view}
-use Rattle.sql_tree.specs.View.{view}
+use Rattle.query_tree.specs.View.{view}
 use Rattle.eval_meaning.specs.Evaluation.{eval, evals, choices}
 use Rattle.eval_row.proofs.evaluating.+eval.Given as goal
 

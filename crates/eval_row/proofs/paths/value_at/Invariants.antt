@@ -1,6 +1,6 @@
 use Rattle.std.proofs.Common.{◌≡◌, map, drop}
 use Rattle.snel_values.specs.View.{view}
-use Rattle.sql_tree.specs.View.{step_view}
+use Rattle.query_tree.specs.View.{step_view}
 use Rattle.eval_meaning.specs.Paths.{path_of}
 use Rattle.eval_row.proofs.paths.value_at.Given as goal
 

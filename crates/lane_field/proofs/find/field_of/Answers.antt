@@ -1,5 +1,5 @@
 use Rattle.std.proofs.Common.{◌∙◌, ap}
-use Rattle.query_meaning.specs.Tree.{name}
+use Rattle.tree_meaning.specs.Tree.{name}
 use Rattle.eval_meaning.specs.Paths.{step_of}
 use Rattle.ion_cells.specs.Shown.{shown}
 use Rattle.ion_cells.specs.Values.{pairs_in}

@@ -1,5 +1,5 @@
 use Rattle.std.proofs.Common.{◌<◌, ℕ, List}
-use Rattle.query_meaning.specs.Tree.{name}
+use Rattle.tree_meaning.specs.Tree.{name}
 use Rattle.lane_field.specs.CellsOf.{cell_in}
 use Rattle.lane_field.specs.Steps.{StepAt, IsNamed}
 use Rattle.lane_field.proofs.find.fields_at.Given as goal

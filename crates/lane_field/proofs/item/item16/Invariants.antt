@@ -1,5 +1,5 @@
 use Rattle.std.proofs.Common.{◌<◌, ℕ}
-use Rattle.query_meaning.specs.Tree as tree
+use Rattle.tree_meaning.specs.Tree as tree
 use Rattle.lane_field.specs.CellsOf.{cell_in}
 use Rattle.lane_field.specs.Steps.{StepAt, Any}
 use Rattle.lane_field.proofs.item.item16.Given as goal

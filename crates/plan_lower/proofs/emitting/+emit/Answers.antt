@@ -1,9 +1,8 @@
 use Rattle.std.proofs.Common.{ap, sym, subst, ◌∙◌, arith, IfOk}
-use Rattle.query_meaning.specs.Tree.{size, no, bin, is}
-use Rattle.query_meaning.specs.WellFormed.{IsFormed}
+use Rattle.tree_meaning.specs.Tree.{size, no, bin, is}
+use Rattle.tree_meaning.specs.WellFormed.{IsFormed}
 use Rattle.program_meaning.specs.Instructions.{negation, asks, binary}
-use Rattle.sql_tree.specs.View.{view}
-use Rattle.sql_tree.specs.Names.{op_view, what_view}
+use Rattle.query_tree.specs.View.{view}
 use Rattle.plan_lower.specs.Forms.{is_lowered_ex}
 use Rattle.plan_lower.specs.Emitting.{Emits}
 use Rattle.plan_lower.proofs.EmittedValues.{mask_known}
@@ -24,7 +23,7 @@ emit_bin-returns t c =
     let old = c.args.builder.now in
     let new = c.put.new.self in
     let m = c.args.mask in
-    let op = op_view c.args.op in
+    let op = c.args.op in
     let left = view c.get.result.now in
     let right = view c.get-2.result.now in
     subst (λ x. IfOk c.put.result (λ r. Emits old new (bin op x c.args.right.now) m r)) c.get.ensures
@@ -36,7 +35,7 @@ emit_is-returns t c =
     let old = c.args.builder.now in
     let new = c.put.new.self in
     let m = c.args.mask in
-    let what = what_view c.args.what in
+    let what = c.args.what in
     subst (λ x. IfOk c.put.result (λ r. Emits old new (is what x) m r)) c.get.ensures
     (one_emitted c.put.result old c.emit_expr.new.builder new m c.in_ok-of.of (asks what) (view c.get.result.now) c.requires.mask c.in_ok-of.ensures c.put.ensures.ok c.put.ensures.number)
 

@@ -1,6 +1,6 @@
 use Rattle.std.proofs.Common.{◌*◌, ◌+◌}
-use Rattle.query_meaning.specs.Tree.{size}
-use Rattle.sql_tree.specs.View.{view}
+use Rattle.tree_meaning.specs.Tree.{size}
+use Rattle.query_tree.specs.View.{view}
 use Rattle.plan_lower.proofs.emitting.+emit.Given as goal
 
 abbrev pub decreases-emit_bin : goal.decreases-emit_bin

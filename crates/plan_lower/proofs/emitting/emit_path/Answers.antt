@@ -1,4 +1,4 @@
-use Rattle.sql_tree.specs.View.{step_view}
+use Rattle.query_tree.specs.View.{step_view}
 use Rattle.plan_lower.proofs.Emissions.{row_emitted_at, path_goes_on}
 use Rattle.plan_lower.proofs.emitting.emit_path.Goals as goal
 

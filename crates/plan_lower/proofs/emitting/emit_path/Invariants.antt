@@ -1,6 +1,6 @@
 use Rattle.std.proofs.Common.{map, take}
 use Rattle.eval_meaning.specs.Paths.{path_of}
-use Rattle.sql_tree.specs.View.{step_view}
+use Rattle.query_tree.specs.View.{step_view}
 use Rattle.plan_lower.specs.Emitting.{Computes}
 use Rattle.plan_lower.proofs.emitting.emit_path.Given as goal
 

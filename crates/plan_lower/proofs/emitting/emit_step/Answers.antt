@@ -1,8 +1,8 @@
 use Rattle.std.proofs.Common.{ap, sym, subst, ◌∙◌, IfOk}
-use Rattle.query_meaning.specs.Tree.{name}
+use Rattle.tree_meaning.specs.Tree.{name}
 use Rattle.eval_meaning.specs.Paths.{step_of}
 use Rattle.program_meaning.specs.Instructions.{field, item}
-use Rattle.sql_tree.specs.View.{step_view}
+use Rattle.query_tree.specs.View.{step_view}
 use Rattle.plan_lower.specs.Emitting.{Applies}
 use Rattle.plan_lower.proofs.Emissions.{step_emitted}
 use Rattle.plan_lower.proofs.emitting.emit_step.Goals as goal

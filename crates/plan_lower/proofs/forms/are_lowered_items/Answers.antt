@@ -1,5 +1,5 @@
 use Rattle.std.proofs.Common.{sym, ◌∙◌}
-use Rattle.sql_tree.specs.Parts.{item_view}
+use Rattle.query_tree.specs.Parts.{item_view}
 use Rattle.plan_lower.specs.Forms.{is_lowered_output}
 use Rattle.plan_lower.proofs.Items.{fails_here, passes_on}
 use Rattle.plan_lower.proofs.forms.are_lowered_items.Goals as goal

@@ -1,6 +1,6 @@
 use Rattle.std.proofs.Common.{sym, subst, IfOk}
 use Rattle.std.specs.Option.{option_map}
-use Rattle.sql_tree.specs.View.{view}
+use Rattle.query_tree.specs.View.{view}
 use Rattle.plan_lower.specs.Emitting.{Keeps}
 use Rattle.plan_lower.proofs.Emissions.{filter_emitted}
 use Rattle.plan_lower.proofs.lowering.emit_filter.Goals as goal

@@ -1,5 +1,5 @@
-use Rattle.query_meaning.specs.WellFormed.{IsOutput}
-use Rattle.sql_tree.specs.Parts.{item_view}
+use Rattle.tree_meaning.specs.WellFormed.{IsOutput}
+use Rattle.query_tree.specs.Parts.{item_view}
 use Rattle.plan_lower.specs.Forms.{is_lowered_output}
 use Rattle.plan_lower.proofs.Items.{all_at, passes_at}
 use Rattle.plan_lower.proofs.Emissions.{named_more, outputs_more}

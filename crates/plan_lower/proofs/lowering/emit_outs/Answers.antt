@@ -1,5 +1,5 @@
 use Rattle.std.proofs.Common.{sym, ◌∙◌, ap, length}
-use Rattle.sql_tree.specs.Queries.{outs_view}
+use Rattle.query_tree.specs.Queries.{outs_view}
 use Rattle.plan_lower.specs.Ends.{names_of}
 use Rattle.plan_lower.proofs.PlainQueries.{names_of_star, length_of_names}
 use Rattle.plan_lower.proofs.lowering.emit_outs.Goals as goal

@@ -1,11 +1,11 @@
 use Rattle.std.proofs.Common.{ap, sym, subst, ◌∙◌, [], ◌∷◌, ◌++◌}
-use Rattle.query_meaning.specs.Tree.{Query}
+use Rattle.tree_meaning.specs.Tree.{Query}
 use Rattle.check_meaning.specs.Names.{names}
 use Rattle.program_meaning.specs.Instructions.{all}
 use Rattle.program_meaning.specs.Programs.{mask_count, value_count, IsProgram}
 use Rattle.program_meaning.specs.Jobs.{AreEnds}
 use Rattle.program_meaning.specs.Simulation.{Simulates}
-use Rattle.sql_tree.specs.Queries.{query_view}
+use Rattle.query_tree.specs.Queries.{query_view}
 use Rattle.plan_lower.specs.Forms.{are_lowered_outs, is_lowered_filter, is_lowered}
 use Rattle.plan_lower.specs.Emitting.{Keeps}
 use Rattle.plan_lower.specs.Ends.{plain_ends}

@@ -1,5 +1,5 @@
 use Rattle.std.proofs.Common.{arith}
-use Rattle.sql_tree.specs.View.{view, arm_view}
+use Rattle.query_tree.specs.View.{view, arm_view}
 use Rattle.query_check.proofs.Smaller.{item_smaller, arm_smaller, taken_more}
 use Rattle.query_check.proofs.copies.+copy.Goals as goal
 

@@ -1,6 +1,6 @@
 use Rattle.std.proofs.Common.{◌≡◌, ◌*◌, ◌+◌, take}
-use Rattle.query_meaning.specs.Tree.{size, exs, exs_size, arms, arms_size}
-use Rattle.sql_tree.specs.View.{view}
+use Rattle.tree_meaning.specs.Tree.{size, exs, exs_size, arms, arms_size}
+use Rattle.query_tree.specs.View.{view}
 use Rattle.query_check.proofs.copies.+copy.Given as goal
 
 abbrev pub decreases-copy_expr : goal.decreases-copy_expr

@@ -1,6 +1,6 @@
 use Rattle.std.proofs.Common.{◌≡◌, ◌<◌, ◌≤◌, arith, length, refl, sym}
-use Rattle.query_meaning.specs.Tree.{size}
-use Rattle.sql_tree.specs.View.{view}
+use Rattle.tree_meaning.specs.Tree.{size}
+use Rattle.query_tree.specs.View.{view}
 use Rattle.check_meaning.specs.Operands.{operands}
 use Rattle.check_meaning.proofs.OperandParts.{operand_falls}
 use Rattle.query_check.proofs.Listed.{same_more, same_all}

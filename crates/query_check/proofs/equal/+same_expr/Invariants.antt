@@ -1,7 +1,7 @@
 use Rattle.std.proofs.Common.{◌≡◌, take}
-use Rattle.query_meaning.specs.Tree.{size}
+use Rattle.tree_meaning.specs.Tree.{size}
 use Rattle.check_meaning.specs.Operands.{operands}
-use Rattle.sql_tree.specs.View.{view}
+use Rattle.query_tree.specs.View.{view}
 use Rattle.query_check.proofs.equal.+same_expr.Given as goal
 
 abbrev pub decreases-same_expr : goal.decreases-same_expr

@@ -1,6 +1,6 @@
 use Rattle.std.proofs.Common.{sym, arith, ◌∙◌}
 use Rattle.check_meaning.specs.Same.{same_ex}
-use Rattle.sql_tree.specs.View.{view}
+use Rattle.query_tree.specs.View.{view}
 use Rattle.query_check.proofs.Searching.{any_here, any_next, any_end, same_is}
 use Rattle.query_check.proofs.equal.is_among.Goals as goal
 

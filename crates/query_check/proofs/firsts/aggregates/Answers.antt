@@ -1,6 +1,6 @@
 use Rattle.std.proofs.Common.{◌∙◌, ◌+◌, [], sym, ap, drop, arith}
-use Rattle.sql_tree.specs.View.{view}
-use Rattle.sql_tree.specs.Queries.{query_view}
+use Rattle.query_tree.specs.View.{view}
+use Rattle.query_tree.specs.Queries.{query_view}
 use Rattle.check_meaning.specs.Places.{places}
 use Rattle.query_check.specs.Faults.{place_view}
 use Rattle.query_check.proofs.Walking.{gathered}

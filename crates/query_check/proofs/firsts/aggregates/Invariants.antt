@@ -1,5 +1,5 @@
 use Rattle.std.proofs.Common.{◌≡◌, drop, []}
-use Rattle.sql_tree.specs.Queries.{query_view}
+use Rattle.query_tree.specs.Queries.{query_view}
 use Rattle.check_meaning.specs.Places.{places}
 use Rattle.query_check.proofs.Walking.{gathered}
 use Rattle.query_check.proofs.AllPlaces.{all_parts}

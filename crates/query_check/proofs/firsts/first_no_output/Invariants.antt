@@ -1,8 +1,8 @@
 use Rattle.std.proofs.Common.{◌≡◌, ℕ, Bool, drop, map}
 use Rattle.std.specs.Prelude.{find}
 use Rattle.std.specs.List.{enumerate_from}
-use Rattle.query_meaning.specs.Tree.{Ex}
-use Rattle.sql_tree.specs.Queries.{outs_view}
+use Rattle.tree_meaning.specs.Tree.{Ex}
+use Rattle.query_tree.specs.Queries.{outs_view}
 use Rattle.check_meaning.specs.Verdict.{is_no_number}
 use Rattle.query_check.proofs.firsts.first_no_output.Given as goal
 

@@ -1,6 +1,6 @@
 use Rattle.std.proofs.Common.{◌∙◌, sym, arith}
-use Rattle.sql_tree.specs.View.{view}
-use Rattle.sql_tree.specs.Queries.{query_view}
+use Rattle.query_tree.specs.View.{view}
+use Rattle.query_tree.specs.Queries.{query_view}
 use Rattle.query_check.specs.Faults.{place_view}
 use Rattle.query_check.specs.Placed.{test_of}
 use Rattle.query_check.proofs.AllPlaces.{place_here, place_next, place_end}

@@ -1,6 +1,6 @@
 use Rattle.std.proofs.Common.{◌≡◌, drop}
 use Rattle.std.specs.Prelude.{find}
-use Rattle.sql_tree.specs.Queries.{query_view}
+use Rattle.query_tree.specs.Queries.{query_view}
 use Rattle.check_meaning.specs.Places.{places}
 use Rattle.query_check.specs.Placed.{test_of}
 use Rattle.query_check.proofs.firsts.first_place.Given as goal

@@ -1,9 +1,9 @@
 use Rattle.std.proofs.Common.{◌∙◌, sym}
-use Rattle.sql_tree.specs.Queries.{query_view}
+use Rattle.query_tree.specs.Queries.{query_view}
 use Rattle.query_check.proofs.Limits.{grouped_by_keys, grouped_by_having, grouped_by_aggregate, is_some_of}
 use Rattle.query_check.proofs.AllPlaces.{some_mapped}
 use Rattle.query_check.specs.Faults.{place_view}
-use Rattle.sql_tree.specs.View.{view}
+use Rattle.query_tree.specs.View.{view}
 use Rattle.query_check.proofs.firsts.is_grouped.Goals as goal
 
 pub returns-then-len-gt0 : goal.returns-then-len-gt0

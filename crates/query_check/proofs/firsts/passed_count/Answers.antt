@@ -1,4 +1,4 @@
-use Rattle.sql_tree.specs.Queries.{query_view}
+use Rattle.query_tree.specs.Queries.{query_view}
 use Rattle.query_check.proofs.Limits.{many_outputs, many_keys, many_orders}
 use Rattle.query_check.proofs.firsts.passed_count.Goals as goal
 

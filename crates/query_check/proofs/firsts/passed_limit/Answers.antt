@@ -1,5 +1,5 @@
 use Rattle.std.proofs.Common.{◌∙◌, sym, ap, length}
-use Rattle.sql_tree.specs.Queries.{query_view}
+use Rattle.query_tree.specs.Queries.{query_view}
 use Rattle.query_check.specs.Faults.{place_view}
 use Rattle.query_check.proofs.Limits.{long_path, many_aggregates, none_passed, is_some_of}
 use Rattle.query_check.proofs.firsts.passed_limit.Goals as goal

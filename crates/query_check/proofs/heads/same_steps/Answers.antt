@@ -1,5 +1,5 @@
 use Rattle.std.proofs.Common.{sym}
-use Rattle.sql_tree.specs.View.{step_view}
+use Rattle.query_tree.specs.View.{step_view}
 use Rattle.query_check.proofs.Listed.{mapped_differ, mapped_more}
 use Rattle.query_check.proofs.heads.same_steps.Goals as goal
 

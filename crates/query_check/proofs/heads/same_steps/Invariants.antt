@@ -1,5 +1,5 @@
 use Rattle.std.proofs.Common.{◌≡◌, map, take}
-use Rattle.sql_tree.specs.View.{step_view}
+use Rattle.query_tree.specs.View.{step_view}
 use Rattle.query_check.proofs.heads.same_steps.Given as goal
 
 abbrev pub invariant-loop-at : goal.invariant-loop-at

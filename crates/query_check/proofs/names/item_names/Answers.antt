@@ -1,8 +1,8 @@
 use Rattle.std.proofs.Common.{◌≡◌, ◌∙◌, ◌+◌, ◌≤◌, List, ℕ, map, length, sym, arith, ap}
 use Rattle.std.specs.List.{enumerate_from}
 use Rattle.std.specs.Prelude.{Option}
-use Rattle.query_meaning.specs.Tree.{Ex}
-use Rattle.sql_tree.specs.Parts.{item_view}
+use Rattle.tree_meaning.specs.Tree.{Ex}
+use Rattle.query_tree.specs.Parts.{item_view}
 use Rattle.check_meaning.specs.Names.{output_name}
 use Rattle.query_check.proofs.Listed.{mapped_at, whole}
 use Rattle.query_check.proofs.Numbered.{numbered_at, length_mapped}

@@ -1,8 +1,8 @@
 use Rattle.std.proofs.Common.{◌≡◌, ◌∙◌, ap, refl, Some}
 use Rattle.std.specs.Prelude.{slice_get}
 use Rattle.std.specs.Option.{option_map}
-use Rattle.sql_tree.specs.View.{view}
-use Rattle.sql_tree.specs.Queries.{query_view}
+use Rattle.query_tree.specs.View.{view}
+use Rattle.query_tree.specs.Queries.{query_view}
 use Rattle.check_meaning.specs.Place.{having}
 use Rattle.query_check.specs.Placed.{having_places, order_places}
 use Rattle.query_check.proofs.Placing.{alone_here, alone_later, alone_room, alone_none, alone_none_room}

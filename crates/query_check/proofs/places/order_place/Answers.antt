@@ -1,8 +1,8 @@
 use Rattle.std.proofs.Common.{◌≡◌, ◌∙◌, ◌+◌, ◌<◌, arith, ap, sym, ℕ, length, Some}
-use Rattle.query_meaning.specs.Tree.{Ex}
-use Rattle.sql_tree.specs.Parts.{key_view}
-use Rattle.sql_tree.specs.Queries.{query_view, outs_view}
-use Rattle.sql_tree.specs.View.{view}
+use Rattle.tree_meaning.specs.Tree.{Ex}
+use Rattle.query_tree.specs.Parts.{key_view}
+use Rattle.query_tree.specs.Queries.{query_view, outs_view}
+use Rattle.query_tree.specs.View.{view}
 use Rattle.check_meaning.specs.Places.{order_ex}
 use Rattle.check_meaning.specs.Place.{order_key}
 use Rattle.query_check.proofs.Placing.{order_room, order_at}

@@ -1,7 +1,7 @@
 use Rattle.std.proofs.Common.{◌≡◌, ◌∙◌, ℕ, ap, sym, Some}
-use Rattle.query_meaning.specs.Tree.{Ex}
-use Rattle.sql_tree.specs.View.{view}
-use Rattle.sql_tree.specs.Queries.{query_view}
+use Rattle.tree_meaning.specs.Tree.{Ex}
+use Rattle.query_tree.specs.View.{view}
+use Rattle.query_tree.specs.Queries.{query_view}
 use Rattle.check_meaning.specs.Place.{output}
 use Rattle.query_check.proofs.Placing.{output_here, output_later, output_room}
 use Rattle.query_check.proofs.places.place_at.Goals as goal

@@ -1,5 +1,5 @@
 use Rattle.std.proofs.Common.{arith}
-use Rattle.sql_tree.specs.Queries.{query_view}
+use Rattle.query_tree.specs.Queries.{query_view}
 use Rattle.check_meaning.specs.Place.{where_test, having}
 use Rattle.query_check.proofs.Placing.{length_places}
 use Rattle.query_check.proofs.places.place_count.Goals as goal

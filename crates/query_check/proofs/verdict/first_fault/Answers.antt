@@ -1,6 +1,6 @@
 use Rattle.std.proofs.Common.{◌∙◌, ap, sym}
 use Rattle.std.specs.Option.{option_map}
-use Rattle.sql_tree.specs.Queries.{outs_view, query_view}
+use Rattle.query_tree.specs.Queries.{outs_view, query_view}
 use Rattle.query_check.specs.Faults.{limit_view, place_view}
 use Rattle.query_check.proofs.FaultOrder.{first_is_limit, first_is_nested, first_is_not_grouped, first_is_over_groups, first_is_same_name, first_is_no_such_order, no_fault, few_names, same_name_is}
 use Rattle.query_check.proofs.verdict.first_fault.Goals as goal

@@ -1,5 +1,5 @@
 use Rattle.std.proofs.Common.{◌∙◌, ap}
-use Rattle.sql_tree.specs.Queries.{outs_view, query_view}
+use Rattle.query_tree.specs.Queries.{outs_view, query_view}
 use Rattle.query_check.proofs.FaultOrder.{whole_rows, by_outputs}
 use Rattle.query_check.proofs.verdict.not_grouped.Goals as goal
 

@@ -3,7 +3,7 @@ use Rattle.std.specs.List.{flat_map}
 use Rattle.check_meaning.specs.Operands.{operands}
 use Rattle.check_meaning.specs.Parts.{parts}
 use Rattle.query_check.proofs.Walking.{gathered, gathered_first, gathered_next}
-use Rattle.sql_tree.specs.View.{view}
+use Rattle.query_tree.specs.View.{view}
 use Rattle.check_meaning.proofs.OperandParts.{operand_falls}
 use Rattle.query_check.proofs.walk.+gather.Goals as goal
 

@@ -1,9 +1,9 @@
 use Rattle.std.proofs.Common.{◌≡◌, drop}
 use Rattle.std.specs.List.{flat_map}
-use Rattle.query_meaning.specs.Tree.{size}
+use Rattle.tree_meaning.specs.Tree.{size}
 use Rattle.check_meaning.specs.Operands.{operands}
 use Rattle.check_meaning.specs.Parts.{parts}
-use Rattle.sql_tree.specs.View.{view}
+use Rattle.query_tree.specs.View.{view}
 use Rattle.query_check.proofs.Walking.{gathered}
 use Rattle.query_check.proofs.walk.+gather.Given as goal
 

@@ -1,10 +1,10 @@
 use Rattle.std.proofs.Common.{◌≡◌, drop}
 use Rattle.std.specs.List.{list_any, flat_map}
-use Rattle.query_meaning.specs.Tree.{size}
+use Rattle.tree_meaning.specs.Tree.{size}
 use Rattle.check_meaning.specs.Operands.{operands}
 use Rattle.check_meaning.specs.Parts.{parts_outside, none}
 use Rattle.check_meaning.specs.Tests.{is_doubled}
-use Rattle.sql_tree.specs.View.{view}
+use Rattle.query_tree.specs.View.{view}
 use Rattle.query_check.proofs.walk.+has_doubled.Given as goal
 
 abbrev pub decreases-has_doubled : goal.decreases-has_doubled

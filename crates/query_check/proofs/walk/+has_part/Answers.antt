@@ -1,5 +1,5 @@
 use Rattle.std.proofs.Common.{sym, ◌∙◌, arith}
-use Rattle.sql_tree.specs.View.{view}
+use Rattle.query_tree.specs.View.{view}
 use Rattle.check_meaning.specs.Operands.{operands}
 use Rattle.check_meaning.proofs.OperandParts.{operand_falls}
 use Rattle.query_check.specs.Asked.{is_stop, is_meant}

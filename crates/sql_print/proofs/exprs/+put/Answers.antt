@@ -1,9 +1,8 @@
 use Rattle.std.proofs.Common.{◌≡◌, ◌∙◌, ℕ, List, [], ◌++◌, ap, sym, arith}
 use Rattle.std.specs.Prelude.{codes}
-use Rattle.query_meaning.specs.Tree.{exs, arms, bin, is, member, between, matching, choice, cast, call, trunc, extract, shift, agg}
+use Rattle.tree_meaning.specs.Tree.{exs, arms, bin, is, member, between, matching, choice, cast, call, trunc, extract, shift, agg}
 use Rattle.query_meaning.specs.Words.{mark_text, function_text, part_text, cast_text}
-use Rattle.sql_tree.specs.Names.{op_view, what_view, how_view, to_view, func_view, part_view, agg_view}
-use Rattle.sql_tree.specs.View.{view, arm_view}
+use Rattle.query_tree.specs.View.{view, arm_view}
 use Rattle.print_meaning.specs.Pieces.{in_quotes}
 use Rattle.print_meaning.specs.Print.{op_mark, what_mark, func_word, agg_word}
 use Rattle.print_meaning.specs.Texts.{text, list_text, arms_text, between_text}
@@ -20,16 +19,16 @@ pub put_agg-returns : goal.put_agg-returns
 put_agg-returns t c =
     let old = c.args.text.now in
     let inner = text c.args.row.now c.args.of.now in
-    let name = function_text (agg_word (agg_view c.args.name)) in
+    let name = function_text (agg_word c.args.name) in
     let first : c.put.new.text ≡ old ++ name = c.in_ok-put.ensures ∙ ap (λ (z : List ℕ). old ++ z) c.agg_name.ensures in
-    let e = by_two old c.put.new.text name (codes "(" ++ (inner ++ codes ")")) (text c.args.row.now (agg (agg_view c.args.name) c.args.of.now)) first (agg_text c.args.row.now (agg_view c.args.name) c.args.of.now) in
+    let e = by_two old c.put.new.text name (codes "(" ++ (inner ++ codes ")")) (text c.args.row.now (agg c.args.name c.args.of.now)) first (agg_text c.args.row.now c.args.name c.args.of.now) in
     rw (← e) c.put_within.ensures
 
 pub put_bin-returns : goal.put_bin-returns
 put_bin-returns t c =
     let old = c.args.text.now in
     let row = c.args.row.now in
-    let op = op_view c.args.op in
+    let op = c.args.op in
     let left = text row c.args.left.now in
     let first : c.put_within.new.text ≡ old ++ (codes "(" ++ (left ++ between_text (op_mark op))) = c.in_ok-put_within.ensures ∙ ap (λ (z : List ℕ). old ++ (codes "(" ++ (left ++ z))) c.op_words.ensures in
     let e = by_two old c.put_within.new.text (codes "(" ++ (left ++ between_text (op_mark op))) ([] ++ (text row c.args.right.now ++ codes ")")) (text row (bin op c.args.left.now c.args.right.now)) first (bin_text row op c.args.left.now c.args.right.now) in
@@ -75,7 +74,7 @@ put_between-returns t c =
 pub put_is-returns : goal.put_is-returns
 put_is-returns t c =
     let row = c.args.row.now in
-    let what = what_view c.args.what in
+    let what = c.args.what in
     let second : c.put.new.text ≡ c.put_within.new.text ++ mark_text (what_mark what) = c.in_ok-put.ensures ∙ ap (λ (z : List ℕ). c.put_within.new.text ++ z) c.what_word.ensures in
     let e = by_three c.args.text.now c.put_within.new.text c.put.new.text
     (codes "(" ++ (text row c.args.of.now ++ codes " IS ")) (mark_text (what_mark what)) (codes ")")
@@ -95,7 +94,7 @@ put_in-returns t c =
 pub put_match-returns : goal.put_match-returns
 put_match-returns t c =
     let row = c.args.row.now in
-    let how = how_view c.args.how in
+    let how = c.args.how in
     let inner = text row c.args.of.now in
     let first : c.put_within.new.text ≡ c.args.text.now ++ (before how ++ (inner ++ between_of how)) =
     c.in_ok-put_within.ensures ∙ (λ i. c.args.text.now ++ (c.match_before.ensures i ++ (inner ++ c.match_between.ensures i))) in
@@ -118,7 +117,7 @@ put_case-returns t c =
 pub put_cast-returns : goal.put_cast-returns
 put_cast-returns t c =
     let row = c.args.row.now in
-    let to = to_view c.args.to in
+    let to = c.args.to in
     let second : c.put.new.text ≡ c.put_within.new.text ++ cast_text to = c.in_ok-put.ensures ∙ ap (λ (z : List ℕ). c.put_within.new.text ++ z) c.cast_word.ensures in
     let e = by_three c.args.text.now c.put_within.new.text c.put.new.text
     (codes "CAST(" ++ (text row c.args.of.now ++ codes " AS ")) (cast_text to) (codes ")")
@@ -129,7 +128,7 @@ put_cast-returns t c =
 pub put_call-returns : goal.put_call-returns
 put_call-returns t c =
     let row = c.args.row.now in
-    let name = func_view c.args.name in
+    let name = c.args.name in
     let first : c.put.new.text ≡ c.args.text.now ++ function_text (func_word name) = c.in_ok-put.ensures ∙ ap (λ (z : List ℕ). c.args.text.now ++ z) c.func_name.ensures in
     let e = by_four c.args.text.now c.put.new.text c.put-2.new.text c.put_exprs.new.text
     (function_text (func_word name)) (codes "(") (list_text row c.args.args.now) (codes ")")
@@ -140,7 +139,7 @@ put_call-returns t c =
 pub put_trunc-returns : goal.put_trunc-returns
 put_trunc-returns t c =
     let row = c.args.row.now in
-    let part = part_view c.args.part in
+    let part = c.args.part in
     let second : c.put-2.new.text ≡ c.put.new.text ++ part_text part = c.in_ok-put-2.ensures ∙ ap (λ (z : List ℕ). c.put.new.text ++ z) c.part_name.ensures in
     let e = by_three c.args.text.now c.put.new.text c.put-2.new.text
     (codes "DATE_TRUNC(") (part_text part) (codes ", " ++ (text row c.args.of.now ++ codes ")"))
@@ -151,7 +150,7 @@ put_trunc-returns t c =
 pub put_extract-returns : goal.put_extract-returns
 put_extract-returns t c =
     let row = c.args.row.now in
-    let part = part_view c.args.part in
+    let part = c.args.part in
     let second : c.put-2.new.text ≡ c.put.new.text ++ part_text part = c.in_ok-put-2.ensures ∙ ap (λ (z : List ℕ). c.put.new.text ++ z) c.part_name.ensures in
     let e = by_three c.args.text.now c.put.new.text c.put-2.new.text
     (codes "EXTRACT(") (part_text part) (codes " FROM " ++ (text row c.args.of.now ++ codes ")"))
@@ -162,7 +161,7 @@ put_extract-returns t c =
 pub put_shift-returns : goal.put_shift-returns
 put_shift-returns t c =
     let row = c.args.row.now in
-    let part = part_view c.args.part in
+    let part = c.args.part in
     let second : c.put-2.new.text ≡ c.put.new.text ++ part_text part = c.in_ok-put-2.ensures ∙ ap (λ (z : List ℕ). c.put.new.text ++ z) c.part_name.ensures in
     let e = by_four c.args.text.now c.put.new.text c.put-2.new.text c.put_within.new.text
     (codes "DATE_ADD(") (part_text part) (codes ", " ++ (text row c.args.count.now ++ codes ", ")) ([] ++ (text row c.args.of.now ++ codes ")"))

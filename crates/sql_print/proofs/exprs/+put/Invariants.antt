@@ -1,6 +1,6 @@
 use Rattle.std.proofs.Common.{◌+◌, ◌*◌}
-use Rattle.query_meaning.specs.Tree.{size, exs, exs_size, arms, arms_size}
-use Rattle.sql_tree.specs.View.{view}
+use Rattle.tree_meaning.specs.Tree.{size, exs, exs_size, arms, arms_size}
+use Rattle.query_tree.specs.View.{view}
 use Rattle.print_meaning.specs.Texts.{text}
 use Rattle.print_meaning.proofs.PrintedLists.{Joins, Lists, arm_text}
 use Rattle.sql_print.proofs.exprs.+put.Given as goal

@@ -1,5 +1,5 @@
 use Rattle.std.proofs.Common.{◌∙◌, ℕ, List, ◌++◌, ap, sym, arith}
-use Rattle.sql_tree.specs.Parts.{item_view}
+use Rattle.query_tree.specs.Parts.{item_view}
 use Rattle.print_meaning.proofs.PrintedLists.{lists_one, lists_all, item_text, items_are}
 use Rattle.sql_print.proofs.lists.put_items.Goals as goal
 

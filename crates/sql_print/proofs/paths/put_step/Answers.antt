@@ -1,7 +1,7 @@
 use Rattle.std.proofs.Common.{◌≡◌, ◌∙◌, ℕ, [], ◌∷◌, ◌++◌, ap}
 use Rattle.std.specs.Prelude.{codes, decimal}
-use Rattle.query_meaning.specs.Tree.{Step, name, at}
-use Rattle.sql_tree.specs.View.{step_view}
+use Rattle.tree_meaning.specs.Tree.{Step, name, at}
+use Rattle.query_tree.specs.View.{step_view}
 use Rattle.print_meaning.specs.Pieces.{in_quotes}
 use Rattle.print_meaning.specs.Texts.{steps_text}
 use Rattle.sql_print.proofs.StepTexts.{name_text, at_text}

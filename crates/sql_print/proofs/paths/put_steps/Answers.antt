@@ -1,6 +1,6 @@
 use Rattle.std.proofs.Common.{◌∙◌, ℕ, List, ◌++◌, ap, sym, map, arith}
 use Rattle.std.proofs.lemmas.List.{length-map}
-use Rattle.sql_tree.specs.View.{step_view}
+use Rattle.query_tree.specs.View.{step_view}
 use Rattle.print_meaning.proofs.PrintedLists.{joins_one, joins_all, steps_is, step_text}
 use Rattle.sql_print.proofs.Members.{mapped}
 use Rattle.sql_print.proofs.paths.put_steps.Goals as goal

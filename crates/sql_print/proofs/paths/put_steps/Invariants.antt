@@ -1,5 +1,5 @@
 use Rattle.std.proofs.Common.{map}
-use Rattle.sql_tree.specs.View.{step_view}
+use Rattle.query_tree.specs.View.{step_view}
 use Rattle.print_meaning.proofs.PrintedLists.{Joins, step_text}
 use Rattle.sql_print.proofs.paths.put_steps.Given as goal
 

@@ -1,7 +1,7 @@
 use Rattle.std.proofs.Common.{◌∙◌, ℕ, List, ◌++◌, codes, ap}
 use Rattle.print_meaning.specs.Pieces.{in_quotes}
 use Rattle.print_meaning.specs.Texts.{outs_text, alias_text}
-use Rattle.sql_tree.specs.Queries.{query_view}
+use Rattle.query_tree.specs.Queries.{query_view}
 use Rattle.sql_print.proofs.Whole.{is_whole}
 use Rattle.sql_print.proofs.query.print.Goals as goal
 

@@ -1,8 +1,7 @@
 use Rattle.std.proofs.Common.{drop, arith}
 use Rattle.std.proofs.lemmas.Result.{err_from_is_err_and}
 use Rattle.sql_reader.specs.Seen.{toks}
-use Rattle.sql_tree.specs.View.{view}
-use Rattle.sql_tree.specs.Names.{op_view}
+use Rattle.query_tree.specs.View.{view}
 use Rattle.query_meaning.specs.Reading.{after, whens_by, operand_by, expr_at}
 use Rattle.query_meaning.specs.declared.Mark.TheVariants as m
 use Rattle.query_meaning.proofs.Steps.{prefixed-times}
@@ -19,7 +18,7 @@ pub chain-loop-turn-preserved : goal.chain-loop-turn-preserved
 chain-loop-turn-preserved t c =
     let ts = toks c.args.looks.now in
     let room = c.args.room in
-    rw c.in_ok-both.ensures (chain_goes_on room c.loop-turn._turn (omega arith) (operand_by (expr_at room) room c.args.level) c.args.level _ (view c.loop-turn.left) (drop c.loop-turn.rest ts) c.loop-turn.invariant (op_view c.in-Some.op) (drop c.in-Some.next ts) c.in-Some.ensures (view c.in_ok-right.right) (drop c.in_ok-right.behind ts) c.in_ok-right.ensures)
+    rw c.in_ok-both.ensures (chain_goes_on room c.loop-turn._turn (omega arith) (operand_by (expr_at room) room c.args.level) c.args.level _ (view c.loop-turn.left) (drop c.loop-turn.rest ts) c.loop-turn.invariant (c.in-Some.op) (drop c.in-Some.next ts) c.in-Some.ensures (view c.in_ok-right.right) (drop c.in_ok-right.behind ts) c.in_ok-right.ensures)
 
 pub operand-returns-in-And : goal.operand-returns-in-And
 operand-returns-in-And t c = rw (c.in-And.is, prefixed-times) c.neg.ensures

@@ -1,7 +1,7 @@
 use Rattle.std.proofs.Common.{◌≡◌, ◌-◌, ◌+◌, ◌*◌, drop, ℕ}
 use Rattle.std.specs.Option.{option_map}
 use Rattle.sql_reader.specs.Seen.{toks}
-use Rattle.sql_tree.specs.View.{view}
+use Rattle.query_tree.specs.View.{view}
 use Rattle.query_meaning.specs.declared.Level.{Level}
 use Rattle.query_meaning.specs.declared.Level.TheVariants as lv
 use Rattle.query_meaning.specs.Reading.{more_by, operand_by, level_by, whens_by, list_by, expr_at}

@@ -1,5 +1,6 @@
 use Rattle.std.proofs.Common.{◌+◌, ◌-◌, ◌*◌, drop, arith, get_or}
-use Rattle.sql_tree.proofs.LexSteps.{decimal_at, decimal_grows, too_large, small_enough, past_end}
+use Rattle.sql_tree.proofs.LexSteps.{too_large, small_enough}
+use Rattle.tree_meaning.proofs.Decimals.{decimal_at, decimal_grows, past_end}
 use Rattle.sql_tree.proofs.numbers.number_of.Goals as goal
 
 pub returns-then-number-gt922337203685477580 : goal.returns-then-number-gt922337203685477580

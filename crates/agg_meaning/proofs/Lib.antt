@@ -1,0 +1,4 @@
+pub mod Shuffles
+pub mod Summaries
+pub mod States
+pub mod Best

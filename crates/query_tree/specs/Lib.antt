@@ -1,0 +1,4 @@
+pub mod View
+pub mod Falls
+pub mod Parts
+pub mod Queries

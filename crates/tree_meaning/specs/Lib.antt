@@ -1,0 +1,5 @@
+pub mod Decimals
+pub mod Parts
+pub mod Tree
+pub mod Code
+pub mod WellFormed
