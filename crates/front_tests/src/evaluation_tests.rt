@@ -1,9 +1,10 @@
+use crate::spelling::spell;
+use crate::words::{Words, plain};
 use eval_row::eval_row;
 use query_tree::{Operand, Outputs, Query};
 use snel_values::{Items, OutOfMemory, Pairs, Text, Value};
 use sql_reader::read;
-use std::alloc::{AllocError, Global};
-use std::test::Fail;
+use std::alloc::Global;
 
 // The expression of the first output.
 fn first_output(query: &Query) -> Option<&Operand> {
@@ -24,50 +25,69 @@ fn first_value(alloc: Global, query: &Query, row: &Value) -> Option<Value> {
     }
 }
 
-// The value of an expression on a row.
-fn value_of(alloc: Global, expression: &str, row: &Value) -> Option<Value> {
-    let Ok(text) = format!(in alloc; "SELECT {expression} FROM t") else {
-        return None
-    };
-    match read(alloc, text.as_str()) {
+// The value of the first output of a text's query.
+fn value_of(alloc: Global, text: &str, row: &Value) -> Option<Value> {
+    match read(alloc, text) {
         Ok(query) => first_value(alloc, &query, row),
         Err(_) => None,
     }
 }
 
+fn numbered(before: &'static str, number: i128) -> Words {
+    Words {
+        before,
+        number: Some(number),
+        behind: "",
+    }
+}
+
 // A value in words; a time counts microseconds from 1970-01-01T00:00:00Z.
-fn said(alloc: Global, value: &Value) -> Result<String, AllocError> {
+fn said(value: &Value) -> Words {
     match value {
-        Value::Missing => String::from_str(alloc, "MISSING"),
-        Value::Null => String::from_str(alloc, "NULL"),
-        Value::Bool(true) => String::from_str(alloc, "TRUE"),
-        Value::Bool(false) => String::from_str(alloc, "FALSE"),
-        Value::Int(number) => format!(in alloc; "{number}"),
-        Value::Time(micros) => format!(in alloc; "time {micros}"),
-        Value::Text(text) => format!(in alloc; "'{}'", text.as_str()),
-        Value::List(_) => String::from_str(alloc, "a list"),
-        Value::Struct(_) => String::from_str(alloc, "a struct"),
+        Value::Missing => plain("MISSING"),
+        Value::Null => plain("NULL"),
+        Value::Bool(true) => plain("TRUE"),
+        Value::Bool(false) => plain("FALSE"),
+        Value::Int(number) => numbered("", *number),
+        Value::Time(micros) => numbered("time ", i128::from(*micros)),
+        Value::Text(_) => plain("a text"),
+        Value::List(_) => plain("a list"),
+        Value::Struct(_) => plain("a struct"),
+    }
+}
+
+// Whether this is the value of the first output of a text's query.
+fn is_value(alloc: Global, text: &str, row: &Value, wanted: &str) -> bool {
+    match value_of(alloc, text, row) {
+        Some(value) => said(&value).are(wanted),
+        None => false,
     }
 }
 
 // Whether an expression has this value on a row.
 fn has_value(alloc: Global, expression: &str, row: &Value, wanted: &str) -> bool {
-    let Some(value) = value_of(alloc, expression, row) else {
-        return false
-    };
-    match said(alloc, &value) {
-        Ok(made) => made.as_str() == wanted,
+    match spell(alloc, &["SELECT ", expression, "", "", " FROM t"], 1) {
+        Ok(text) => is_value(alloc, text.as_str(), row, wanted),
         Err(_) => false,
     }
 }
 
-// Adds a pair, where its name stands above the last.
-fn put(alloc: Global, pairs: &mut Pairs, name: &str, value: Value) -> Result<(), OutOfMemory> {
-    let name = Text::of(alloc, name)?;
+// `{"a":1,"b":"x"}`
+fn with_both(alloc: Global) -> Result<Value, OutOfMemory> {
+    let mut pairs = Pairs::new(alloc);
+    pairs.push(Text::of(alloc, "a")?, Value::Int(1))?;
+    let name = Text::of(alloc, "b")?;
     if pairs.is_above_last(name.as_str()) {
-        pairs.push(name, value)?;
+        pairs.push(name, Value::Text(Text::of(alloc, "x")?))?;
     }
-    Ok(())
+    Ok(Value::Struct(pairs))
+}
+
+// A struct of one pair.
+fn with_one(alloc: Global, name: &str, value: Value) -> Result<Value, OutOfMemory> {
+    let mut pairs = Pairs::new(alloc);
+    pairs.push(Text::of(alloc, name)?, value)?;
+    Ok(Value::Struct(pairs))
 }
 
 // `[1,null]`
@@ -78,19 +98,19 @@ fn list(alloc: Global) -> Result<Value, OutOfMemory> {
     Ok(Value::List(items))
 }
 
+// `{"a":[1,null]}`
+fn with_list(alloc: Global) -> Result<Value, OutOfMemory> {
+    with_one(alloc, "a", list(alloc)?)
+}
+
 // The row `{"a":1,"b":"x"}`, `{"a":null}`, `{"b":7}` or `{"a":[1,null]}`.
 fn row(alloc: Global, at: usize) -> Result<Value, OutOfMemory> {
-    let mut pairs = Pairs::new(alloc);
     match at {
-        0 => {
-            put(alloc, &mut pairs, "a", Value::Int(1))?;
-            put(alloc, &mut pairs, "b", Value::Text(Text::of(alloc, "x")?))?;
-        }
-        1 => put(alloc, &mut pairs, "a", Value::Null)?,
-        2 => put(alloc, &mut pairs, "b", Value::Int(7))?,
-        _ => put(alloc, &mut pairs, "a", list(alloc)?)?,
+        0 => with_both(alloc),
+        1 => with_one(alloc, "a", Value::Null),
+        2 => with_one(alloc, "b", Value::Int(7)),
+        _ => with_list(alloc),
     }
-    Ok(Value::Struct(pairs))
 }
 
 // Expressions, and their values on the four rows.
@@ -109,24 +129,27 @@ const ON_ROWS: [(&str, [&str; 4]); 9] = [
         "CASE WHEN a = 1 THEN 10 WHEN a IS NOT MISSING THEN 20 END",
         ["10", "20", "NULL", "20"],
     ),
-    ("b", ["'x'", "MISSING", "7", "MISSING"]),
+    ("b", ["a text", "MISSING", "7", "MISSING"]),
     ("a[0]", ["MISSING", "MISSING", "MISSING", "1"]),
     ("a[1]", ["MISSING", "MISSING", "MISSING", "NULL"]),
     ("a[3]", ["MISSING", "MISSING", "MISSING", "MISSING"]),
 ];
 
+// Whether an expression has this value on the row at a place.
+fn has_value_on(alloc: Global, expression: &str, at: usize, wanted: &str) -> bool {
+    match row(alloc, at) {
+        Ok(row) => has_value(alloc, expression, &row, wanted),
+        Err(_) => false,
+    }
+}
+
 #[test]
-fn expressions_have_their_values_on_rows(rt: HostRuntime) -> Result<(), Fail> {
-    for at in 0..4usize {
-        let row = row(rt.alloc(), at)?;
-        for (expression, values) in ON_ROWS {
-            assert!(rt;
-                has_value(rt.alloc(), expression, &row, values[at]),
-                "{expression}"
-            );
+fn expressions_have_their_values_on_rows(rt: HostRuntime) {
+    for (expression, values) in &ON_ROWS {
+        for at in 0..4usize {
+            assert!(rt; has_value_on(rt.alloc(), expression, at, values[at]), "{expression}");
         }
     }
-    Ok(())
 }
 
 // Expressions without paths, and their values.
@@ -199,7 +222,7 @@ const VALUES: [(&str, &str); 40] = [
 
 #[test]
 fn expressions_without_paths_have_their_values(rt: HostRuntime) {
-    for (expression, wanted) in VALUES {
+    for (expression, wanted) in &VALUES {
         assert!(rt;
             has_value(rt.alloc(), expression, &Value::Null, wanted),
             "{expression}"

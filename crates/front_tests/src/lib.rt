@@ -7,8 +7,6 @@ mod evaluation_tests;
 #[cfg(test)]
 mod listing_tests;
 #[cfg(test)]
-mod long_texts;
-#[cfg(test)]
 mod printed;
 #[cfg(test)]
 mod printing_tests;
@@ -19,4 +17,8 @@ mod reasons;
 #[cfg(test)]
 mod refusal_tests;
 #[cfg(test)]
+mod spelling;
+#[cfg(test)]
 mod tree_tests;
+#[cfg(test)]
+mod words;

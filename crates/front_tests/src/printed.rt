@@ -11,3 +11,11 @@ pub(crate) fn printed(alloc: Global, text: &str) -> Option<Bytes> {
         Err(_) => None,
     }
 }
+
+/// Whether the query of a text is printed so.
+pub(crate) fn prints(alloc: Global, text: &str, wanted: &[u8]) -> bool {
+    match printed(alloc, text) {
+        Some(made) => made.as_slice() == wanted,
+        None => false,
+    }
+}

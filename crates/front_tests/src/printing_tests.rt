@@ -1,15 +1,22 @@
-use crate::long_texts::{Parts, spell};
-use crate::printed::printed;
-use snel_values::{Bytes, Value};
+use crate::printed::prints;
+use crate::spelling::{Parts, spell};
+use snel_values::{Bytes, OutOfMemory, Value};
 use sql_print::{put_literal, put_name, put_string};
 use std::alloc::Global;
-use std::test::Fail;
 
-// Whether the query of a text is printed so.
-fn prints(alloc: Global, text: &str, wanted: &str) -> bool {
-    match printed(alloc, text) {
-        Some(made) => made.as_slice() == wanted.as_bytes(),
-        None => false,
+// Whether a text is a query, which is printed so and, read again, printed so again.
+fn is_printed(alloc: Global, text: &str, wanted: &str) -> bool {
+    prints(alloc, text, wanted.as_bytes()) && prints(alloc, wanted, wanted.as_bytes())
+}
+
+// The same of two texts of parts.
+fn are_printed(alloc: Global, parts: &Parts<'_>, wanted: &Parts<'_>, times: u32) -> bool {
+    let Ok(text) = spell(alloc, parts, times) else {
+        return false
+    };
+    match spell(alloc, wanted, times) {
+        Ok(wanted) => prints(alloc, text.as_str(), wanted.as_bytes()),
+        Err(_) => false,
     }
 }
 
@@ -90,16 +97,19 @@ const EXPRESSIONS: [(&str, &str); 61] = [
     ("a - 1 - 2", "((\"t\".\"a\" - 1) - 2)"),
 ];
 
+// Whether an expression is printed so in WHERE.
+fn is_printed_in_where(alloc: Global, expression: &str, wanted: &str) -> bool {
+    let parts = ["select * from t where ", expression, "", "", ""];
+    let printed = ["SELECT * FROM \"t\" WHERE ", wanted, "", "", ""];
+    are_printed(alloc, &parts, &printed, 1)
+}
+
 #[test]
-fn expressions_are_printed_in_one_way(rt: HostRuntime) -> Result<(), Fail> {
-    let alloc = rt.alloc();
-    for (expression, wanted) in EXPRESSIONS {
-        let text = format!(in alloc; "select * from t where {expression}")?;
-        let wanted = format!(in alloc; "SELECT * FROM \"t\" WHERE {wanted}")?;
-        assert!(rt; prints(alloc, text.as_str(), wanted.as_str()), "{text}");
-        assert!(rt; prints(alloc, wanted.as_str(), wanted.as_str()), "{text}");
+fn expressions_are_printed_in_one_way(rt: HostRuntime) {
+    for (expression, wanted) in &EXPRESSIONS {
+        assert!(rt; is_printed_in_where(rt.alloc(), expression, wanted), "{expression}");
+        assert!(rt; is_printed_in_where(rt.alloc(), wanted, wanted), "{expression}");
     }
-    Ok(())
 }
 
 // Queries, and how they are printed.
@@ -116,14 +126,13 @@ const QUERIES: [(&str, &str); 2] = [
 
 #[test]
 fn printed_queries_are_read_and_printed_again(rt: HostRuntime) {
-    for (text, wanted) in QUERIES {
-        assert!(rt; prints(rt.alloc(), text, wanted), "{text}");
-        assert!(rt; prints(rt.alloc(), wanted, wanted), "{text}");
+    for (text, wanted) in &QUERIES {
+        assert!(rt; is_printed(rt.alloc(), text, wanted), "{text}");
     }
 }
 
 // Chains of 2,000 levels, which fit the stack.
-const CHAINS: [(Parts, Parts); 2] = [
+const CHAINS: [(Parts<'static>, Parts<'static>); 2] = [
     (
         ["SELECT * FROM t WHERE ", "NOT ", "a", "", ""],
         [
@@ -141,21 +150,21 @@ const CHAINS: [(Parts, Parts); 2] = [
 ];
 
 #[test]
-fn deep_trees_fit_the_stack(rt: HostRuntime) -> Result<(), Fail> {
-    for (parts, wanted) in CHAINS {
-        let text = spell(rt.alloc(), parts, 2_000)?;
-        let wanted = spell(rt.alloc(), wanted, 2_000)?;
-        assert!(rt; prints(rt.alloc(), text.as_str(), wanted.as_str()));
+fn deep_trees_fit_the_stack(rt: HostRuntime) {
+    for (parts, wanted) in &CHAINS {
+        assert!(rt; are_printed(rt.alloc(), parts, wanted, 2_000));
     }
-    Ok(())
+}
+
+fn put_three(text: &mut Bytes) -> Result<(), OutOfMemory> {
+    put_name(text, "a\"'")?;
+    put_string(text, "a\"'")?;
+    put_literal(text, &Value::Int(7))
 }
 
 #[test]
-fn names_strings_and_literals_are_printed(rt: HostRuntime) -> Result<(), Fail> {
+fn names_strings_and_literals_are_printed(rt: HostRuntime) {
     let mut text = Bytes::new(rt.alloc());
-    put_name(&mut text, "a\"'")?;
-    put_string(&mut text, "a\"'")?;
-    put_literal(&mut text, &Value::Int(7))?;
-    assert_eq!(rt; text.as_slice(), b"\"a\"\"'\"'a\"'''7".as_slice());
-    Ok(())
+    assert!(rt; put_three(&mut text).is_ok());
+    assert!(rt; text.as_slice() == b"\"a\"\"'\"'a\"'''7".as_slice());
 }

@@ -1,67 +1,33 @@
-//! The reason for which a text is refused, in the words of README.md.
+//! The reason for which a text is refused, in the words of README.md. No words say that nothing is refused.
+use crate::words::{Words, plain};
 use plan_lower::is_lowered;
 use query_check::{CheckFault, Limit, Place, check};
 use query_tree::Query;
 use sql_reader::{SqlFault, read};
 use std::alloc::Global;
 
-/// The words of a reason round its number, if it has one. No words say that nothing is refused.
-#[derive(Clone, Copy)]
-pub(crate) struct Reason {
-    before: &'static str,
-    number: Option<u32>,
-    behind: &'static str,
-}
-
-impl Reason {
-    fn plain(words: &'static str) -> Reason {
-        Reason {
-            before: words,
-            number: None,
-            behind: "",
-        }
-    }
-
-    fn at_number(before: &'static str, number: u32, behind: &'static str) -> Reason {
-        Reason {
-            before,
-            number: Some(number),
-            behind,
-        }
-    }
-
-    /// Whether the reason is said so.
-    pub(crate) fn is(self, alloc: Global, wanted: &str) -> bool {
-        let Reason {
-            before,
-            number,
-            behind,
-        } = self;
-        let made = match number {
-            Some(number) => format!(in alloc; "{before}{number}{behind}"),
-            None => format!(in alloc; "{before}{behind}"),
-        };
-        match made {
-            Ok(made) => made.as_str() == wanted,
-            Err(_) => false,
-        }
+fn numbered(before: &'static str, number: u32, behind: &'static str) -> Words {
+    Words {
+        before,
+        number: Some(i128::from(number)),
+        behind,
     }
 }
 
-fn of_text(fault: SqlFault) -> Reason {
+fn of_text(fault: SqlFault) -> Words {
     match fault {
-        SqlFault::TooLong => Reason::plain("too long"),
-        SqlFault::BadToken(place) => Reason::at_number("bad token at byte ", place, ""),
-        SqlFault::TooMany => Reason::plain("too many tokens"),
-        SqlFault::Refused(place) => Reason::at_number("refused word at byte ", place, ""),
-        SqlFault::TooDeep(place) => Reason::at_number("nested too deep at byte ", place, ""),
-        SqlFault::NotAQuery => Reason::plain("not a query"),
-        SqlFault::OutOfMemory => Reason::plain("out of memory"),
+        SqlFault::TooLong => plain("too long"),
+        SqlFault::BadToken(place) => numbered("bad token at byte ", place, ""),
+        SqlFault::TooMany => plain("too many tokens"),
+        SqlFault::Refused(place) => numbered("refused word at byte ", place, ""),
+        SqlFault::TooDeep(place) => numbered("nested too deep at byte ", place, ""),
+        SqlFault::NotAQuery => plain("not a query"),
+        SqlFault::OutOfMemory => plain("out of memory"),
     }
 }
 
-fn of_limit(limit: Limit) -> Reason {
-    Reason::plain(match limit {
+fn of_limit(limit: Limit) -> Words {
+    plain(match limit {
         Limit::Outputs => "too many outputs",
         Limit::GroupKeys => "too many group keys",
         Limit::OrderKeys => "too many order keys",
@@ -70,56 +36,54 @@ fn of_limit(limit: Limit) -> Reason {
     })
 }
 
-fn of_place(place: Place, behind: &'static str) -> Reason {
-    let (before, number) = match place {
-        Place::Output(number) => ("output ", Some(number)),
-        Place::Filter => ("WHERE", None),
-        Place::Key(number) => ("group key ", Some(number)),
-        Place::Having => ("HAVING", None),
-        Place::Order(number) => ("order key ", Some(number)),
-    };
-    Reason {
-        before,
-        number,
-        behind,
+fn of_place(place: Place, behind: &'static str) -> Words {
+    match place {
+        Place::Output(number) => numbered("output ", number, behind),
+        Place::Filter => Words {
+            before: "WHERE",
+            number: None,
+            behind,
+        },
+        Place::Key(number) => numbered("group key ", number, behind),
+        Place::Having => Words {
+            before: "HAVING",
+            number: None,
+            behind,
+        },
+        Place::Order(number) => numbered("order key ", number, behind),
     }
 }
 
-fn of_query(fault: CheckFault) -> Reason {
+fn of_query(fault: CheckFault) -> Words {
     match fault {
         CheckFault::TooMany(limit) => of_limit(limit),
         CheckFault::Nested(place) => of_place(place, " has a misplaced aggregate"),
         CheckFault::NotGrouped(place) => of_place(place, " is not grouped"),
         CheckFault::OverGroups(place) => of_place(place, " is not allowed over groups"),
-        CheckFault::SameName(output) => {
-            Reason::at_number("output ", output, " has an earlier name")
-        }
-        CheckFault::NoSuchOrder(key) => Reason::at_number("order key ", key, " has no output"),
-        CheckFault::OutOfMemory => Reason::plain("out of memory"),
+        CheckFault::SameName(output) => numbered("output ", output, " has an earlier name"),
+        CheckFault::NoSuchOrder(key) => numbered("order key ", key, " has no output"),
+        CheckFault::OutOfMemory => plain("out of memory"),
     }
 }
 
 /// Why a text is no query.
-pub(crate) fn why_unread(alloc: Global, text: &str) -> Reason {
-    match read(alloc, text) {
-        Ok(_) => Reason::plain(""),
-        Err(fault) => of_text(fault),
+pub(crate) fn why_unread(alloc: Global, text: &str) -> Words {
+    match read(alloc, text).err() {
+        Some(fault) => of_text(fault),
+        None => plain(""),
     }
 }
 
-fn why_unanswered(alloc: Global, query: Query) -> Reason {
-    match check(alloc, query) {
-        Ok(checked) => Reason::plain(if is_lowered(checked.query()) {
-            ""
-        } else {
-            "not built yet"
-        }),
-        Err(fault) => of_query(fault),
+fn why_unanswered(alloc: Global, query: Query) -> Words {
+    let built = is_lowered(&query);
+    match check(alloc, query).err() {
+        Some(fault) => of_query(fault),
+        None => plain(if built { "" } else { "not built yet" }),
     }
 }
 
 /// Why a text isn't answered.
-pub(crate) fn why_refused(alloc: Global, text: &str) -> Reason {
+pub(crate) fn why_refused(alloc: Global, text: &str) -> Words {
     match read(alloc, text) {
         Ok(query) => why_unanswered(alloc, query),
         Err(fault) => of_text(fault),

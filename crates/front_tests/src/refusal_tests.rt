@@ -1,9 +1,9 @@
-use crate::long_texts::{Parts, spell};
 use crate::reasons::why_refused;
+use crate::spelling::{Parts, spell};
 use query_check::{Checked, check};
+use query_tree::Query;
 use sql_reader::read;
 use std::alloc::Global;
-use std::test::Fail;
 
 // Texts, and why they aren't answered; no words stand beside a query that is.
 const TEXTS: [(&str, &str); 28] = [
@@ -75,11 +75,8 @@ const TEXTS: [(&str, &str); 28] = [
 
 #[test]
 fn texts_are_answered_or_say_why_not(rt: HostRuntime) {
-    for (text, reason) in TEXTS {
-        assert!(rt;
-            why_refused(rt.alloc(), text).is(rt.alloc(), reason),
-            "{text}"
-        );
+    for (text, reason) in &TEXTS {
+        assert!(rt; why_refused(rt.alloc(), text).are(reason), "{text}");
     }
 }
 
@@ -93,7 +90,7 @@ const SUMS: &str =
     SUM(62), SUM(63), SUM(64)";
 
 // The same of long texts: at each limit and past it.
-const LONG_TEXTS: [(Parts, u32, &str); 13] = [
+const LONG_TEXTS: [(Parts<'static>, u32, &str); 13] = [
     (["SELECT a FROM t ", " ", "", "", ""], 65_521, "too long"),
     (
         ["SELECT a FROM t WHERE ", "NOT ", "b", "", ""],
@@ -141,23 +138,18 @@ const LONG_TEXTS: [(Parts, u32, &str); 13] = [
     ),
 ];
 
-#[test]
-fn long_texts_are_answered_or_say_why_not(rt: HostRuntime) -> Result<(), Fail> {
-    for (parts, times, reason) in LONG_TEXTS {
-        let text = spell(rt.alloc(), parts, times)?;
-        assert!(rt;
-            why_refused(rt.alloc(), text.as_str()).is(rt.alloc(), reason),
-            "{reason}"
-        );
+// Whether this is why the text of these parts isn't answered.
+fn is_refused(alloc: Global, parts: &Parts<'_>, times: u32, reason: &str) -> bool {
+    match spell(alloc, parts, times) {
+        Ok(text) => why_refused(alloc, text.as_str()).are(reason),
+        Err(_) => false,
     }
-    Ok(())
 }
 
-// The query of a text, if it is accepted.
-fn accepted(alloc: Global, text: &str) -> Option<Checked> {
-    match read(alloc, text) {
-        Ok(query) => check(alloc, query).ok(),
-        Err(_) => None,
+#[test]
+fn long_texts_are_answered_or_say_why_not(rt: HostRuntime) {
+    for (parts, times, reason) in &LONG_TEXTS {
+        assert!(rt; is_refused(rt.alloc(), parts, *times, reason), "{times} times: {reason}");
     }
 }
 
@@ -173,28 +165,45 @@ fn has_names(checked: &Checked, names: &[&str]) -> bool {
     same
 }
 
-// Accepted queries: whether they are grouped, how many aggregates they have, and the names of their outputs.
-const ACCEPTED: [(&str, bool, usize, &[&str]); 4] = [
-    ("SELECT SUM(a), SUM(a) FROM logs", true, 1, &["_1", "_2"]),
-    ("SELECT 1, 1 FROM logs HAVING TRUE", true, 0, &["_1", "_2"]),
+// What an accepted query is: whether it is grouped, how many aggregates it has, and the names of its outputs.
+type Facts<'a> = (bool, usize, &'a [&'a str]);
+
+fn has_facts(checked: &Checked, facts: &Facts<'_>) -> bool {
+    let (grouped, aggregates, names) = *facts;
+    checked.grouped() == grouped
+        && checked.aggs().len() == aggregates
+        && has_names(checked, names)
+}
+
+// Whether a query is accepted with these facts.
+fn is_accepted(alloc: Global, query: Query, facts: &Facts<'_>) -> bool {
+    match check(alloc, query) {
+        Ok(checked) => has_facts(&checked, facts),
+        Err(_) => false,
+    }
+}
+
+// The same of a text.
+fn is_taken(alloc: Global, text: &str, facts: &Facts<'_>) -> bool {
+    match read(alloc, text) {
+        Ok(query) => is_accepted(alloc, query, facts),
+        Err(_) => false,
+    }
+}
+
+const ACCEPTED: [(&str, Facts<'static>); 4] = [
+    ("SELECT SUM(a), SUM(a) FROM logs", (true, 1, &["_1", "_2"])),
+    ("SELECT 1, 1 FROM logs HAVING TRUE", (true, 0, &["_1", "_2"])),
     (
         "SELECT a, b.c, a[0], a AS x FROM t",
-        false,
-        0,
-        &["a", "c", "_3", "x"],
+        (false, 0, &["a", "c", "_3", "x"]),
     ),
-    ("SELECT * FROM t", false, 0, &[]),
+    ("SELECT * FROM t", (false, 0, &[])),
 ];
 
 #[test]
-fn accepted_queries_are_grouped_and_named(rt: HostRuntime) -> Result<(), Fail> {
-    for (text, grouped, aggregates, names) in ACCEPTED {
-        let Some(checked) = accepted(rt.alloc(), text) else {
-            return Err("refused".into())
-        };
-        assert_eq!(rt; checked.grouped(), grouped, "{text}");
-        assert_eq!(rt; checked.aggs().len(), aggregates, "{text}");
-        assert!(rt; has_names(&checked, names), "{text}");
+fn accepted_queries_are_grouped_and_named(rt: HostRuntime) {
+    for (text, facts) in &ACCEPTED {
+        assert!(rt; is_taken(rt.alloc(), text, facts), "{text}");
     }
-    Ok(())
 }
