@@ -1,4 +1,7 @@
 pub mod Shuffles
 pub mod Summaries
-pub mod States
+pub mod Partials
 pub mod Best
+pub mod Keys
+pub mod Filters
+pub mod DistinctKeys

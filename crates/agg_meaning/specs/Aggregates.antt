@@ -5,7 +5,8 @@ use Rattle.std.specs.Int.{int_min, int_max}
 use Rattle.value_meaning.specs.Val.{Val, null, truth, int, time}
 use Rattle.tree_meaning.specs.declared.AggName.{AggName}
 use Rattle.tree_meaning.specs.declared.AggName.TheVariants as aggs
-use Rattle.agg_meaning.specs.Operands.{is_there, numbers, times, truths}
+use Rattle.eval_meaning.specs.LogicLaws.{is_present}
+use Rattle.agg_meaning.specs.Operands.{numbers, times, truths}
 
 -- the sum of numbers, which is unbounded
 abbrev pub total : List ℤ → ℤ
@@ -44,7 +45,7 @@ either a b = a || b
 -- kind alone, and are NULL without any.
 abbrev pub aggregate : AggName → List Val → Val
 aggregate aggs.CountAll vs = int (pos (length vs))
-aggregate aggs.Count vs = int (pos (length (filter is_there vs)))
+aggregate aggs.Count vs = int (pos (length (filter is_present vs)))
 aggregate aggs.Sum vs = sum_of (numbers vs)
 aggregate aggs.Avg vs = average_of (numbers vs)
 aggregate aggs.Min vs = number_or_null (reduce int_min (numbers vs))

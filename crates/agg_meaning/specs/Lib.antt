@@ -1,6 +1,6 @@
 pub mod Operands
 pub mod Aggregates
 pub mod Better
-pub mod State
+pub mod Partials
 pub mod Keys
 pub mod Laws

@@ -3,8 +3,8 @@
 //! a law of the definitions.
 #![tactic(auto)]
 
-ghost use Rattle.agg_meaning.specs.Laws.{AggregatesAreUnordered, StatesHaveTheValue, StatesAreUnordered, StatesJoin};
-ghost use Rattle.agg_meaning.specs.Laws.{LeastIsLeast, GreatestIsGreatest};
+ghost use Rattle.agg_meaning.specs.Laws.{AggregatesAreUnordered, PartialsHaveTheValue, PartialsAreUnordered, PartialsJoin};
+ghost use Rattle.agg_meaning.specs.Laws.{LeastIsLeast, GreatestIsGreatest, SameKeysAreEqual};
 
 /// An aggregate's value doesn't depend on the order of the rows.
 pub fn aggregates_are_unordered()
@@ -12,18 +12,18 @@ pub fn aggregates_are_unordered()
 {}
 
 /// A partial aggregate has the aggregate's value.
-pub fn states_have_the_value()
-    ensures { StatesHaveTheValue }
+pub fn partials_have_the_value()
+    ensures { PartialsHaveTheValue }
 {}
 
 /// A partial aggregate doesn't depend on the order of the rows.
-pub fn states_are_unordered()
-    ensures { StatesAreUnordered }
+pub fn partials_are_unordered()
+    ensures { PartialsAreUnordered }
 {}
 
 /// A partial aggregate of two lists, one after the other, is made of theirs.
-pub fn states_join()
-    ensures { StatesJoin }
+pub fn partials_join()
+    ensures { PartialsJoin }
 {}
 
 /// MIN and EARLIEST are the least of what they look at.
@@ -34,4 +34,9 @@ pub fn least_is_least()
 /// MAX and LATEST are the greatest of what they look at.
 pub fn greatest_is_greatest()
     ensures { GreatestIsGreatest }
+{}
+
+/// Lists of keys are the same exactly where they are equal.
+pub fn same_keys_are_equal()
+    ensures { SameKeysAreEqual }
 {}

@@ -1,5 +1,5 @@
--- The rows that WHERE keeps.
-use Rattle.std.specs.Prelude.{Bool, true, List, Option, None, Some}
+-- The pairs that WHERE keeps.
+use Rattle.std.specs.Prelude.{Bool, true, List, map, Option, None, Some}
 use Rattle.std.specs.List.{filter}
 use Rattle.value_meaning.specs.Val.{Val}
 use Rattle.tree_meaning.specs.Tree.{Ex, Query}
@@ -12,10 +12,10 @@ abbrev pub is_kept : Option Ex → Pair → Bool
 is_kept None pair = true
 is_kept (Some e) pair = is_true (eval e pair)
 
--- what WHERE keeps of the rows: those on which it is true, in order, and without it all
-abbrev pub kept : Option Ex → List Val → List Val
-kept None rows = rows
-kept (Some e) rows = filter (λ row. is_true (eval e (alone row))) rows
+-- the pairs of rows: a query has one source, so each row is alone
+abbrev pub pairs : Query → List Val → List Pair
+pairs query rows = map alone rows
 
-abbrev pub passed : Query → List Val → List Val
-passed query rows = kept query.filter rows
+-- the pairs that WHERE keeps, in order
+abbrev pub passed : Query → List Val → List Pair
+passed query rows = filter (is_kept query.filter) (pairs query rows)

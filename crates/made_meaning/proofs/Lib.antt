@@ -1,1 +1,2 @@
 pub mod Ungrouped
+pub mod Shuffled

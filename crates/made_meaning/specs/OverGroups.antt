@@ -1,55 +1,46 @@
--- The groups of a query's rows, and the value of an expression over one: its parts that are keys or aggregates have the
+-- The groups of a query's pairs, and the value of an expression over one: its parts that are keys or aggregates have the
 -- group's values, the outermost first, and what is left is evaluated in no row.
-use Rattle.std.specs.Prelude.{List, [], ◌∷◌, ◌++◌, map, filter, fold, Option, None, Some, if◌then◌else◌}
-use Rattle.std.specs.List.{list_any}
+use Rattle.std.specs.Prelude.{List, [], ◌∷◌, map, filter, Option, None, Some, if◌then◌else◌}
 use Rattle.std.specs.Option.{option_or}
 use Rattle.value_meaning.specs.Val.{Val, missing}
 use Rattle.tree_meaning.specs.Tree.{Ex, Exs, Arms, lit, path, neg, no, bin, is, member, between, matching, choice, cast, call, trunc, extract, shift, agg_of_rows, agg, no_exs, ex, no_arms, arm, Query}
 use Rattle.check_meaning.specs.Same.{same_ex}
-use Rattle.agg_meaning.specs.Keys.{same_keys}
+use Rattle.agg_meaning.specs.Keys.{same_keys, distinct_keys}
 use Rattle.agg_meaning.specs.Aggregates.{aggregate}
-use Rattle.eval_meaning.specs.Pair.{alone}
+use Rattle.eval_meaning.specs.Pair.{Pair, alone}
 use Rattle.eval_meaning.specs.Evaluation.{eval}
 
--- the values of expressions on a row
-abbrev pub values_on : List Ex → Val → List Val
-values_on es row = map (λ e. eval e (alone row)) es
+-- the values of expressions on a pair
+abbrev pub values_on : List Ex → Pair → List Val
+values_on es p = map (λ e. eval e p) es
 
--- the list of keys with another at its end, unless it is there
-abbrev pub with_keys : List (List Val) → List Val → List (List Val)
-with_keys all keys = if list_any (same_keys keys) all then all else all ++ keys ∷ []
-
--- each list of keys once, where it stands first
-abbrev pub distinct_keys : List (List Val) → List (List Val)
-distinct_keys all = fold with_keys [] all
-
--- the values of the keys, and the rows that have them
+-- the values of the keys, and the pairs that have them
 pub record Group : Type 0 where
   pub keys : List Val
-  pub rows : List Val
+  pub members : List Pair
 
-abbrev pub group_of : List Ex → List Val → List Val → Group
-group_of es rows keys = record { keys = keys; rows = filter (λ row. same_keys keys (values_on es row)) rows }
+abbrev pub group_of : List Ex → List Pair → List Val → Group
+group_of es all keys = record { keys = keys; members = filter (λ p. same_keys keys (values_on es p)) all }
 
--- without GROUP BY one group of all rows, also of none; else one for each distinct list of the keys' values
-abbrev pub groups : List Ex → List Val → List Group
-groups [] rows = record { keys = []; rows = rows } ∷ []
-groups (e ∷ es) rows = map (group_of (e ∷ es) rows) (distinct_keys (map (values_on (e ∷ es)) rows))
+-- without GROUP BY one group of all pairs, also of none; else one for each distinct list of the keys' values
+abbrev pub groups : List Ex → List Pair → List Group
+groups [] all = record { keys = []; members = all } ∷ []
+groups (e ∷ es) all = map (group_of (e ∷ es) all) (distinct_keys (map (values_on (e ∷ es)) all))
 
--- the value of the first key that is this expression
-abbrev pub key_value : List Ex → List Val → Ex → Option Val
-key_value (k ∷ ks) (v ∷ vs) e = if same_ex k e then Some v else key_value ks vs e
-key_value ks vs e = None
+-- the value beside the first expression that is this one
+abbrev pub value_beside : List Ex → List Val → Ex → Option Val
+value_beside (k ∷ ks) (v ∷ vs) e = if same_ex k e then Some v else value_beside ks vs e
+value_beside ks vs e = None
 
--- the value of an aggregate over the group's rows; of COUNT(*) no value of a row is looked at
-abbrev pub aggregate_value : List Val → Ex → Option Val
-aggregate_value rows (agg_of_rows n) = Some (aggregate n rows)
-aggregate_value rows (agg n e) = Some (aggregate n (map (λ row. eval e (alone row)) rows))
-aggregate_value rows e = None
+-- the value of an aggregate over the group's members; COUNT(*) counts them, and looks at no value
+abbrev pub aggregate_value : List Pair → Ex → Option Val
+aggregate_value all (agg_of_rows n) = Some (aggregate n (map (λ p. p.row) all))
+aggregate_value all (agg n e) = Some (aggregate n (map (eval e) all))
+aggregate_value all e = None
 
 -- the value that an expression has as a key or as an aggregate
 abbrev pub known : List Ex → Group → Ex → Option Val
-known es g e = option_or (key_value es g.keys e) (aggregate_value g.rows e)
+known es g e = option_or (value_beside es g.keys e) (aggregate_value g.members e)
 
 -- the value, where there is one, in place of the expression
 abbrev pub lit_or : Option Val → Ex → Ex
@@ -85,6 +76,10 @@ unfoldable mutual
   filled_arms t no_arms = no_arms
   filled_arms t (arm a b r) = arm (filled t a) (filled t b) (filled_arms t r)
 
+-- the value of an expression of which the values of some parts are known
+abbrev pub value_by : (Ex → Option Val) → Ex → Val
+value_by t e = eval (filled t e) (alone missing)
+
 -- the value of an expression over a group
 unfoldable pub over : Query → Group → Ex → Val
-over q g e = eval (filled (known q.keys g) e) (alone missing)
+over q g e = value_by (known q.keys g) e

@@ -8,7 +8,7 @@ ghost use Rattle.plan_lower.specs.Listing as spec;
 use crate::pieces::{agg_word, put, put_mask, put_operand};
 use lane_ssa::{EndAgg, EndAggs, EndOut, EndOuts, Ends, Registers};
 use snel_values::{Bytes, OutOfMemory};
-use sql_print::put_name;
+use sql_pieces::put_name;
 
 #[tactic(auto, unfolding(crate::specs::Listing::out_line))]
 fn put_out(text: &mut Bytes, out: &EndOut) -> Result<(), OutOfMemory>

@@ -16,7 +16,7 @@ use itoa::Buffer;
 use lane_ssa::Instr;
 use snel_values::{Bytes, OutOfMemory, Text, Value};
 use tree_meaning::{BinOp, IsWhat};
-use sql_print::{put_literal, put_name};
+use sql_pieces::{put_literal, put_name};
 
 #[tactic(auto, unfolding(crate::specs::Listing::constant_text))]
 fn put_number(text: &mut Bytes, number: i128) -> Result<(), OutOfMemory>

@@ -7,7 +7,9 @@ use Rattle.query_meaning.specs.declared.Mark.{Mark}
 use Rattle.query_meaning.specs.declared.Mark.TheVariants as m
 use Rattle.query_meaning.specs.declared.FunctionWord.{FunctionWord}
 use Rattle.query_meaning.specs.declared.FunctionWord.TheVariants as f
+use Rattle.tree_meaning.specs.declared.BinOp.{BinOp}
 use Rattle.tree_meaning.specs.declared.BinOp.TheVariants as op
+use Rattle.tree_meaning.specs.declared.IsWhat.{IsWhat}
 use Rattle.tree_meaning.specs.declared.IsWhat.TheVariants as what
 use Rattle.tree_meaning.specs.declared.How.TheVariants as how
 use Rattle.tree_meaning.specs.declared.Part.{Part}
@@ -90,7 +92,7 @@ last_name n h {bs} s = name_lexes n bs h (stops_byte 34 (omega arith) (omega ari
 last_number : (n : ℕ) → n < 2 ^ 63 → {bs : List ℕ} → Stops bs → Lexes (num n) bs
 last_number n h {bs} s = number_lexes n bs h (stops_digit s) (stops_number s)
 
-op_spaced : (o : op.BinOp) (bs : List ℕ) → Lexes (mark (op_mark o)) (32 ∷ bs)
+op_spaced : (o : BinOp) (bs : List ℕ) → Lexes (mark (op_mark o)) (32 ∷ bs)
 op_spaced op.Add bs = plus_lexes (32 ∷ bs)
 op_spaced op.Sub bs = minus_lexes (32 ∷ bs) refl
 op_spaced op.Mul bs = star_lexes (32 ∷ bs)
@@ -105,7 +107,7 @@ op_spaced op.Ge bs = at_least_lexes (32 ∷ bs)
 op_spaced op.And bs = spaced_word m.And refl bs
 op_spaced op.Or bs = spaced_word m.Or refl bs
 
-what_spaced : (w : what.IsWhat) {bs : List ℕ} → Stops bs → Lexes (mark (what_mark w)) bs
+what_spaced : (w : IsWhat) {bs : List ℕ} → Stops bs → Lexes (mark (what_mark w)) bs
 what_spaced what.Null s = last_word m.Null refl s
 what_spaced what.Missing s = last_word m.Missing refl s
 what_spaced what.True s = last_word m.True refl s

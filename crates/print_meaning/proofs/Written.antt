@@ -8,7 +8,9 @@ use Rattle.query_meaning.specs.declared.Mark.TheVariants as m
 use Rattle.query_meaning.specs.declared.FunctionWord.{FunctionWord}
 use Rattle.query_meaning.specs.declared.FunctionWord.TheVariants as f
 use Rattle.query_meaning.specs.declared.Level.TheVariants as lv
+use Rattle.tree_meaning.specs.declared.BinOp.{BinOp}
 use Rattle.tree_meaning.specs.declared.BinOp.TheVariants as op
+use Rattle.tree_meaning.specs.declared.IsWhat.{IsWhat}
 use Rattle.tree_meaning.specs.declared.IsWhat.TheVariants as what
 use Rattle.tree_meaning.specs.declared.How.TheVariants as how
 use Rattle.tree_meaning.specs.declared.Func.TheVariants as func
@@ -45,13 +47,13 @@ stands : {e : Ex} {s t : Toks} → Prim s e t → Expr s e t
 stands p = expr_of (neg_of p)
 
 -- a form of two operands, alone
-of_sums : {k : Mark} {o : op.BinOp} {a b : Ex} {s t u : Toks} → Joins lv.Sum k o → Prim s a (mark k ∷ t) → Prim t b u → Expr s (bin o a b) u
+of_sums : {k : Mark} {o : BinOp} {a b : Ex} {s t u : Toks} → Joins lv.Sum k o → Prim s a (mark k ∷ t) → Prim t b u → Expr s (bin o a b) u
 of_sums j p q = expr_of (plain (alone (chain (term_of (unsigned p)) (more j (term_of (unsigned q)) stop))))
 
-of_terms : {k : Mark} {o : op.BinOp} {a b : Ex} {s t u : Toks} → Joins lv.Term k o → Prim s a (mark k ∷ t) → Prim t b u → Expr s (bin o a b) u
+of_terms : {k : Mark} {o : BinOp} {a b : Ex} {s t u : Toks} → Joins lv.Term k o → Prim s a (mark k ∷ t) → Prim t b u → Expr s (bin o a b) u
 of_terms j p q = expr_of (plain (alone (chain (of_sum (chain (of_term (unsigned p)) (more j (of_term (unsigned q)) stop))) stop)))
 
-of_tests : {k : Mark} {o : op.BinOp} {a b : Ex} {s t u : Toks} → Compares k o → Prim s a (mark k ∷ t) → Prim t b u → Expr s (bin o a b) u
+of_tests : {k : Mark} {o : BinOp} {a b : Ex} {s t u : Toks} → Compares k o → Prim s a (mark k ∷ t) → Prim t b u → Expr s (bin o a b) u
 of_tests c p q = expr_of (plain (compared c (sum_of p) (sum_of q)))
 
 steps_put : (ss : List Step) → All IsStep ss → (s : Pieces) → Steps (tokens_of (put_steps ss s)) ss (tokens_of s)
@@ -76,7 +78,7 @@ literal_put (val.text p) h s = a_string
 literal_put (val.list vs) h s = absurd h
 literal_put (val.struct fs) h s = absurd h
 
-asks_what : (w : what.IsWhat) → Asks (what_mark w) w
+asks_what : (w : IsWhat) → Asks (what_mark w) w
 asks_what what.Null = for_null
 asks_what what.Missing = for_missing
 asks_what what.True = for_true

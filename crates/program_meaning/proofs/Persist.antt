@@ -1,13 +1,13 @@
 -- The registers of a program stay when it goes on.
-use Rattle.std.proofs.Common.{◌≡◌, ℕ, ◌+◌, ◌<◌, ◌≤◌, refl, ap, sym, subst, ◌∙◌, arith, Bool, true, false, List, [], ◌∷◌, ◌++◌, length, slice_index_or, append_assoc, append-nil}
+use Rattle.std.proofs.Common.{◌≡◌, ℕ, ◌<◌, refl, ap, sym, subst, ◌∙◌, Bool, false, List, [], ◌∷◌, ◌++◌, length, slice_index_or, append_assoc, append-nil}
 use Rattle.std.proofs.Math.Seq.{get_or-append_seam}
 use Rattle.std.proofs.lemmas.List.{get_or_append_left}
 use Rattle.std.specs.Prelude.{fold}
 use Rattle.std.proofs.lemmas.List.Sums.{fold-append}
 use Rattle.value_meaning.specs.Val.{Val, missing}
-use Rattle.program_meaning.specs.Instructions.{Instr, holding, make, Source}
+use Rattle.program_meaning.specs.Instructions.{Instr}
 use Rattle.program_meaning.specs.Programs.{mask_count, value_count, Extends}
-use Rattle.program_meaning.specs.Registers.{Lane, State, Made, new_mask, new_value, made_by, with_made, step, empty, after, mask_at, value_at, within, source_of}
+use Rattle.program_meaning.specs.Registers.{Lane, State, Made, new_mask, new_value, made_by, with_made, step, empty, after, mask_at, value_at}
 use Rattle.program_meaning.proofs.Programs.{length-masks, length-values}
 
 pub extends_itself : (xs : List Instr) → Extends xs xs

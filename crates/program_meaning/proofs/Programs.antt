@@ -1,11 +1,12 @@
 -- How many registers a program makes, and which its instructions name.
-use Rattle.std.proofs.Common.{◌≡◌, ℕ, suc, zero, ◌+◌, ◌<◌, ◌≤◌, refl, ap, sym, subst, ◌∙◌, arith, Bool, true, false, cond, not, List, [], ◌∷◌, ◌++◌, length, take, slice_index_or, length-append, length-take, add-zero}
-use Rattle.std.specs.Prelude.{count_by, fold}
+use Rattle.std.proofs.Common.{◌≡◌, ℕ, suc, zero, ◌+◌, ◌<◌, refl, ap, sym, subst, ◌∙◌, arith, Bool, true, false, cond, not, List, [], ◌∷◌, ◌++◌, length, take, slice_index_or, length-append, length-take, add-zero}
+use Rattle.std.specs.Prelude.{fold}
 use Rattle.std.proofs.lemmas.List.Sums.{count_by-le-length, sum_by-cons, sum_by_push}
 use Rattle.value_meaning.specs.Val.{Val}
-use Rattle.program_meaning.specs.Instructions.{Instr, all, holding, make}
-use Rattle.program_meaning.specs.Programs.{makes_mask, makes_value, mask_count, value_count, IsInstruction, IsProgramFrom, IsProgram}
-use Rattle.program_meaning.specs.Registers.{Lane, State, Made, new_mask, new_value, made_by, with_made, step, empty, after}
+use Rattle.program_meaning.specs.Instructions.{Instr, makes_mask}
+use Rattle.program_meaning.specs.Instructions as instr
+use Rattle.program_meaning.specs.Programs.{makes_value, mask_count, value_count, IsInstruction, IsProgramFrom, IsProgram}
+use Rattle.program_meaning.specs.Registers.{Lane, State, new_mask, new_value, with_made, step, empty, after}
 
 -- how long the lists of registers are after an instruction
 record Grown (s s' : State) (x : Instr) : Type 0 where
@@ -19,9 +20,26 @@ grown_value : (s : State) (v : Val) (x : Instr) → makes_mask x ≡ false → G
 grown_value s v x e = record { masks = rw e (sym (add-zero (length s.masks))); values = rw e (length-append s.values (v ∷ [])) }
 
 grown : (l : Lane) (s : State) (x : Instr) → Grown s (step l s x) x
-grown l s all = grown_mask s _ all refl
-grown l s (holding m a) = grown_mask s _ (holding m a) refl
-grown l s (make m from) = grown_value s _ (make m from) refl
+grown l s instr.all = grown_mask s _ instr.all refl
+grown l s (instr.holding m a) = grown_mask s _ (instr.holding m a) refl
+grown l s (instr.minus m k) = grown_mask s _ (instr.minus m k) refl
+grown l s (instr.root m) = grown_value s _ (instr.root m) refl
+grown l s (instr.field m a n) = grown_value s _ (instr.field m a n) refl
+grown l s (instr.at m a i) = grown_value s _ (instr.at m a i) refl
+grown l s (instr.const m v) = grown_value s _ (instr.const m v) refl
+grown l s (instr.bin m o a b) = grown_value s _ (instr.bin m o a b) refl
+grown l s (instr.neg m a) = grown_value s _ (instr.neg m a) refl
+grown l s (instr.not m a) = grown_value s _ (instr.not m a) refl
+grown l s (instr.is m w a) = grown_value s _ (instr.is m w a) refl
+grown l s (instr.first m a b) = grown_value s _ (instr.first m a b) refl
+grown l s (instr.merge m k a b) = grown_value s _ (instr.merge m k a b) refl
+grown l s (instr.matching m h a p) = grown_value s _ (instr.matching m h a p) refl
+grown l s (instr.cast m to a) = grown_value s _ (instr.cast m to a) refl
+grown l s (instr.length m f a) = grown_value s _ (instr.length m f a) refl
+grown l s (instr.unix m f a) = grown_value s _ (instr.unix m f a) refl
+grown l s (instr.trunc m p a) = grown_value s _ (instr.trunc m p a) refl
+grown l s (instr.extract m p a) = grown_value s _ (instr.extract m p a) refl
+grown l s (instr.shift m p c a) = grown_value s _ (instr.shift m p c a) refl
 
 mask_count-cons : (x : Instr) (xs : List Instr) → mask_count (x ∷ xs) ≡ cond (makes_mask x) 1 0 + mask_count xs
 mask_count-cons x xs = sum_by-cons (λ x. cond (makes_mask x) 1 0) x xs

@@ -1,4 +1,5 @@
 pub mod Instructions
+pub mod Code
 pub mod Programs
 pub mod Registers
 pub mod Jobs

@@ -3,16 +3,12 @@
 use Rattle.std.specs.Prelude.{◌≡◌, ℕ, ◌+◌, ◌<◌, Bool, true, false, not, cond, List, [], ◌∷◌, ◌++◌, count_by}
 use Rattle.value_meaning.specs.Val.{Val, missing, null, truth, int, time, text, list, struct}
 use Rattle.time_meaning.specs.Moments.{IsTime}
-use Rattle.tree_meaning.specs.declared.BinOp.{BinOp}
-use Rattle.tree_meaning.specs.declared.BinOp.TheVariants as op
+use Rattle.tree_meaning.specs.declared.Func.{Func}
+use Rattle.tree_meaning.specs.declared.Func.TheVariants as func
+use Rattle.tree_meaning.specs.Parts.{is_cut_to, is_extracted, is_added}
 use Rattle.eval_meaning.specs.Numbers.{fits}
-use Rattle.program_meaning.specs.Instructions.{Two, binary, Source, row, literal, of_one, of_two, Instr, all, holding, make}
-
--- whether an instruction makes a mask register, and no value register
-abbrev pub makes_mask : Instr → Bool
-makes_mask all = true
-makes_mask (holding m a) = true
-makes_mask (make m s) = false
+use Rattle.program_meaning.specs.Instructions.{Instr, makes_mask}
+use Rattle.program_meaning.specs.Instructions as instr
 
 abbrev pub makes_value : Instr → Bool
 makes_value x = not (makes_mask x)
@@ -34,42 +30,45 @@ IsConstant (text s) = Unit {0}
 IsConstant (list vs) = ⊥
 IsConstant (struct fs) = ⊥
 
--- the operators that instructions have: AND and OR
-abbrev pub IsOperator : BinOp → Type 0
-IsOperator op.Add = ⊥
-IsOperator op.Sub = ⊥
-IsOperator op.Mul = ⊥
-IsOperator op.Div = ⊥
-IsOperator op.Rem = ⊥
-IsOperator op.Eq = ⊥
-IsOperator op.Ne = ⊥
-IsOperator op.Lt = ⊥
-IsOperator op.Le = ⊥
-IsOperator op.Gt = ⊥
-IsOperator op.Ge = ⊥
-IsOperator op.And = Unit {0}
-IsOperator op.Or = Unit {0}
+-- the functions of a text's length, and of a time's count since 1970
+abbrev pub is_length : Func → Bool
+is_length func.CharLength = true
+is_length f = false
 
-abbrev pub IsFunction : Two → Type 0
-IsFunction (binary o) = IsOperator o
+abbrev pub is_unix : Func → Bool
+is_unix func.UnixEpoch = true
+is_unix func.UnixMicro = true
+is_unix f = false
 
--- the values that a source names are among the first v, and it is a literal or a function that instructions have
-abbrev pub IsSource : ℕ → Source → Type 0
-IsSource v row = Unit {0}
-IsSource v (literal x) = IsConstant x
-IsSource v (of_one f a) = a < v
-IsSource v (of_two f a b) = IsFunction f × (a < v) × (b < v)
-
--- the registers that an instruction names are among the first m masks and v values
+-- The registers that an instruction names are among the first m masks and v values; a literal is one, and a function takes
+-- its part of a time.
 abbrev pub IsInstruction : ℕ → ℕ → Instr → Type 0
-IsInstruction m v all = Unit {0}
-IsInstruction m v (holding k a) = (k < m) × (a < v)
-IsInstruction m v (make k s) = (k < m) × IsSource v s
+IsInstruction m v instr.all = Unit {0}
+IsInstruction m v (instr.holding k a) = (k < m) × (a < v)
+IsInstruction m v (instr.minus k l) = (k < m) × (l < m)
+IsInstruction m v (instr.root k) = k < m
+IsInstruction m v (instr.field k a n) = (k < m) × (a < v)
+IsInstruction m v (instr.at k a i) = (k < m) × (a < v)
+IsInstruction m v (instr.const k c) = (k < m) × IsConstant c
+IsInstruction m v (instr.bin k o a b) = (k < m) × (a < v) × (b < v)
+IsInstruction m v (instr.neg k a) = (k < m) × (a < v)
+IsInstruction m v (instr.not k a) = (k < m) × (a < v)
+IsInstruction m v (instr.is k w a) = (k < m) × (a < v)
+IsInstruction m v (instr.first k a b) = (k < m) × (a < v) × (b < v)
+IsInstruction m v (instr.merge k p a b) = (k < m) × (p < m) × (a < v) × (b < v)
+IsInstruction m v (instr.matching k h a s) = (k < m) × (a < v)
+IsInstruction m v (instr.cast k to a) = (k < m) × (a < v)
+IsInstruction m v (instr.length k f a) = (k < m) × (a < v) × (is_length f ≡ true)
+IsInstruction m v (instr.unix k f a) = (k < m) × (a < v) × (is_unix f ≡ true)
+IsInstruction m v (instr.trunc k p a) = (k < m) × (a < v) × (is_cut_to p ≡ true)
+IsInstruction m v (instr.extract k p a) = (k < m) × (a < v) × (is_extracted p ≡ true)
+IsInstruction m v (instr.shift k p n a) = (k < m) × (n < v) × (a < v) × (is_added p ≡ true)
 
 -- each instruction names earlier registers, after m masks and v values
 abbrev pub IsProgramFrom : ℕ → ℕ → List Instr → Type 0
 IsProgramFrom m v [] = Unit {0}
-IsProgramFrom m v (x ∷ xs) = IsInstruction m v x × IsProgramFrom (cond (makes_mask x) (m + 1) m) (cond (makes_mask x) v (v + 1)) xs
+IsProgramFrom m v (x ∷ xs) =
+    IsInstruction m v x × IsProgramFrom (cond (makes_mask x) (m + 1) m) (cond (makes_mask x) v (v + 1)) xs
 
 abbrev pub IsProgram : List Instr → Type 0
 IsProgram xs = IsProgramFrom 0 0 xs

@@ -1,6 +1,6 @@
--- A job simulates a query: in the lanes of each chunk of rows it keeps those on which WHERE is true, and there its registers
--- show the values of the query's expressions.
-use Rattle.std.specs.Prelude.{◌≡◌, ℕ, ◌+◌, ◌<◌, Bool, true, false, List, [], map, length, take, drop, Option, None, Some, is_some, slice_get, if◌then◌else◌}
+-- A job simulates a query: in each lane it keeps the pairs on which WHERE is true, and there its registers show the values
+-- of the query's expressions.
+use Rattle.std.specs.Prelude.{◌≡◌, ℕ, ◌+◌, ◌<◌, Bool, true, false, ◌&&◌, List, [], map, length, take, drop, Option, None, Some, is_some, slice_get, if◌then◌else◌}
 use Rattle.std.specs.Option.{option_map}
 use Rattle.value_meaning.specs.Val.{Val}
 use Rattle.tree_meaning.specs.declared.AggName.{AggName}
@@ -8,24 +8,19 @@ use Rattle.tree_meaning.specs.Tree.{Ex, Outs, star, named, Query, agg_of_rows, a
 use Rattle.check_meaning.specs.Names.{names}
 use Rattle.check_meaning.specs.Places.{output_exs, order_ex}
 use Rattle.check_meaning.specs.Aggregates.{aggregates, is_grouped}
-use Rattle.eval_meaning.specs.Logic.{is_true}
+use Rattle.eval_meaning.specs.Pair.{Pair, alone}
 use Rattle.eval_meaning.specs.Evaluation.{eval}
-use Rattle.program_meaning.specs.Registers.{State, mask_at, value_at, HasRun}
+use Rattle.eval_meaning.specs.Passed.{is_kept}
+use Rattle.program_meaning.specs.Registers.{Lane, live_lane, lane_of, State, mask_at, value_at, after, HasRun}
 use Rattle.program_meaning.specs.Jobs.{Ends, Job, IsJob}
 
 abbrev pub is_star : Outs → Bool
 is_star star = true
 is_star (named items) = false
 
--- whether WHERE keeps the row
-abbrev pub is_kept : Option Ex → Val → Bool
-is_kept None row = true
-is_kept (Some e) row = is_true (eval e row)
-
--- a place where no row stands passes nothing
-abbrev pub passes : Query → Option Val → Bool
-passes q None = false
-passes q (Some row) = is_kept q.filter row
+-- whether a lane passes: it is live, and WHERE keeps its pair
+abbrev pub passes : Query → Lane → Bool
+passes q l = l.live && is_kept q.filter l.pair
 
 -- what stands in a query that isn't grouped, and what stands in one that is
 abbrev pub if_ungrouped : {A : Type 0} → Query → List A → List A
@@ -38,11 +33,11 @@ if_grouped q xs = if is_grouped q then xs else []
 abbrev pub order_exs : Query → List Ex
 order_exs q = map (λ k. order_ex q.outs k.0) q.order
 
--- the aggregate and the value of its operand on a row, if it has one
-abbrev pub operand_on : Val → Ex → Option (AggName × Option Val)
-operand_on row (agg_of_rows n) = Some (n, None)
-operand_on row (agg n e) = Some (n, Some (eval e row))
-operand_on row e = None
+-- the aggregate and the value of its operand on a pair, if it has one
+abbrev pub operand_on : Pair → Ex → Option (AggName × Option Val)
+operand_on p (agg_of_rows n) = Some (n, None)
+operand_on p (agg n e) = Some (n, Some (eval e p))
+operand_on p e = None
 
 -- the aggregate, and whether it has an operand
 abbrev pub aggregate_form : Ex → Option (AggName × Bool)
@@ -50,14 +45,17 @@ aggregate_form (agg_of_rows n) = Some (n, false)
 aggregate_form (agg n e) = Some (n, true)
 aggregate_form e = None
 
--- the registers that the ends name show the named expressions on the row, one for each, in order
-pub record ShowsNamed (ends : Ends) (q : Query) (s : State) (row : Val) : Type 0 where
-  pub outs : map (λ o. value_at s o.1) ends.outs ≡ map (λ e. eval e row) (if_ungrouped q (output_exs q.outs))
-  pub sorts : map (λ r. value_at s r) ends.sorts ≡ map (λ e. eval e row) (if_ungrouped q (order_exs q))
-  pub groups : map (λ r. value_at s r) ends.groups ≡ map (λ e. eval e row) (if_grouped q q.keys)
-  pub aggs : map (λ a. Some (a.0, option_map (value_at s) a.1)) ends.aggs ≡ map (operand_on row) (if_grouped q (aggregates q))
+-- the registers that the ends name show the named expressions on the pair, one for each, in order
+pub record ShowsNamed (ends : Ends) (q : Query) (s : State) (p : Pair) : Type 0 where
+  pub outs : map (λ o. value_at s o.1) ends.outs ≡ map (λ e. eval e p) (if_ungrouped q (output_exs q.outs))
+  pub sorts : map (λ r. value_at s r) ends.sorts ≡ map (λ e. eval e p) (if_ungrouped q (order_exs q))
+  pub groups : map (λ r. value_at s r) ends.groups ≡ map (λ e. eval e p) (if_grouped q q.keys)
+  pub aggs :
+      map (λ a. Some (a.0, option_map (value_at s) a.1)) ends.aggs
+      ≡ map (operand_on p) (if_grouped q (aggregates q))
 
--- The job simulates the query: its ends are the query's, and so it is for all rows and any chunk of them, once it has run.
+-- The job simulates the query: its ends are the query's, and in each lane that it is given, it keeps the lane exactly where
+-- that is live and WHERE is true on its pair, and shows there the values of the query's expressions on that pair.
 pub record Simulates (job : Job) (q : Query) : Type 0 where
   pub is_job : IsJob job
   pub star : job.ends.star ≡ is_star q.outs
@@ -66,10 +64,21 @@ pub record Simulates (job : Job) (q : Query) : Type 0 where
   pub sorts : length job.ends.sorts ≡ length (if_ungrouped q (order_exs q))
   pub groups : length job.ends.groups ≡ length (if_grouped q q.keys)
   pub aggs : map (λ a. Some (a.0, is_some a.1)) job.ends.aggs ≡ map aggregate_form (if_grouped q (aggregates q))
-  pub kept :
-      (rows : List Val) (first : ℕ) (lanes : ℕ → State) → HasRun job.program (take 16 (drop first rows)) lanes
-      → (i : ℕ) → i < 16 → mask_at (lanes i) job.ends.keep ≡ passes q (slice_get rows (first + i))
+  pub kept : (l : Lane) → mask_at (after l job.program) job.ends.keep ≡ passes q l
   pub shows :
-      (rows : List Val) (first : ℕ) (lanes : ℕ → State) → HasRun job.program (take 16 (drop first rows)) lanes
-      → (i : ℕ) → i < 16 → (row : Val) → slice_get rows (first + i) ≡ Some row → is_kept q.filter row ≡ true
-      → ShowsNamed job.ends q (lanes i) row
+      (p : Pair) → is_kept q.filter p ≡ true
+      → ShowsNamed job.ends q (after (live_lane p) job.program) p
+
+-- the lanes of a chunk's rows, the first in lane 0; a lane without a row is dead
+abbrev pub lanes_of : List Val → ℕ → Lane
+lanes_of rows i = lane_of (slice_get rows i)
+
+-- the job simulates the query chunk by chunk: it keeps just the rows on which WHERE is true, and shows their values
+pub record SimulatesChunks (job : Job) (q : Query) : Type 0 where
+  pub kept :
+      (rows : List Val) (first : ℕ) (lanes : ℕ → State) → HasRun job.program (lanes_of (take 16 (drop first rows))) lanes
+      → (i : ℕ) → i < 16 → mask_at (lanes i) job.ends.keep ≡ passes q (lane_of (slice_get rows (first + i)))
+  pub shows :
+      (rows : List Val) (first : ℕ) (lanes : ℕ → State) → HasRun job.program (lanes_of (take 16 (drop first rows))) lanes
+      → (i : ℕ) → i < 16 → (row : Val) → slice_get rows (first + i) ≡ Some row → is_kept q.filter (alone row) ≡ true
+      → ShowsNamed job.ends q (lanes i) (alone row)

@@ -1,6 +1,6 @@
 pub mod Grown
-pub mod LiteralTexts
 pub mod StepTexts
 pub mod MatchTexts
 pub mod Members
+pub mod PiecesUtf8
 pub mod Whole

@@ -1,37 +1,35 @@
-ghost use Rattle.std.specs.Prelude.{◌≡◌, ℕ, ◌++◌, codes, IfSome, OnOk, All};
-ghost use Rattle.std.specs.Option.{option_map};
+ghost use Rattle.std.specs.Prelude.{◌≡◌, ◌++◌, codes, IfSome, OnOk, All};
 ghost use Rattle.tree_meaning.specs.WellFormed.{IsFormed, IsKey};
 ghost use Rattle.print_meaning.specs.Print.{skipped};
 ghost use Rattle.print_meaning.specs.Texts as texts;
-ghost use Rattle.query_tree.specs.View.{view};
 
 use crate::exprs::{put_expr, put_exprs};
 use crate::lists::put_keys;
-use crate::pieces::{put, put_digits};
-use snel_values::{Bytes, OutOfMemory};
-use query_tree::{Expr, Exprs, OrderKeys};
+use crate::query_text::{QueryText, put, put_digits};
+use query_tree::{Exprs, Operand, OrderKeys};
+use snel_values::OutOfMemory;
 
 /// Adds the words and the expression, if there is one.
 pub(crate) fn put_clause(
-    text: &mut Bytes,
+    text: &mut QueryText,
     words: &str,
     row: &str,
-    expr: &Option<Expr>,
+    of: &Option<Operand>,
 ) -> Result<(), OutOfMemory>
-    requires { IfSome (option_map view expr.now) IsFormed }
-    ensures { OnOk result (text.new ≡ text.old ++ texts.clause_text words.now row.now (option_map view expr.now)) }
+    requires { IfSome of.now IsFormed }
+    ensures { OnOk result (text.new ≡ text.old ++ texts.clause_text words.now row.now of.now) }
 {
-    match expr {
-        Some(expr) => {
+    match of {
+        Some(of) => {
             put(text, words)?;
-            put_expr(text, row, expr)
+            put_expr(text, row, of.get())
         }
         None => Ok(()),
     }
 }
 
 /// Adds GROUP BY and its keys, if there are any.
-pub(crate) fn put_groups(text: &mut Bytes, row: &str, keys: &Exprs) -> Result<(), OutOfMemory>
+pub(crate) fn put_groups(text: &mut QueryText, row: &str, keys: &Exprs) -> Result<(), OutOfMemory>
     requires { All IsFormed keys.now }
     ensures { OnOk result (text.new ≡ text.old ++ texts.groups_text row.now keys.now) }
 {
@@ -43,7 +41,11 @@ pub(crate) fn put_groups(text: &mut Bytes, row: &str, keys: &Exprs) -> Result<()
 }
 
 /// Adds ORDER BY and its keys, if there are any.
-pub(crate) fn put_order(text: &mut Bytes, row: &str, keys: &OrderKeys) -> Result<(), OutOfMemory>
+pub(crate) fn put_order(
+    text: &mut QueryText,
+    row: &str,
+    keys: &OrderKeys,
+) -> Result<(), OutOfMemory>
     requires { All IsKey keys.now }
     ensures { OnOk result (text.new ≡ text.old ++ texts.order_text row.now keys.now) }
 {
@@ -56,7 +58,7 @@ pub(crate) fn put_order(text: &mut Bytes, row: &str, keys: &OrderKeys) -> Result
 
 /// Adds the words and the number, if there is one.
 pub(crate) fn put_count(
-    text: &mut Bytes,
+    text: &mut QueryText,
     words: &str,
     count: Option<u64>,
 ) -> Result<(), OutOfMemory>
@@ -72,8 +74,9 @@ pub(crate) fn put_count(
 }
 
 /// Adds OFFSET and the count, unless it is 0.
-pub(crate) fn put_offset(text: &mut Bytes, skip: u64) -> Result<(), OutOfMemory>
-    ensures { OnOk result (text.new ≡ text.old ++ texts.count_text (codes " OFFSET ") (skipped skip)) }
+pub(crate) fn put_offset(text: &mut QueryText, skip: u64) -> Result<(), OutOfMemory>
+    ensures { OnOk result (text.new ≡ text.old ++
+        texts.count_text (codes " OFFSET ") (skipped skip)) }
 {
     if skip == 0 {
         return Ok(());

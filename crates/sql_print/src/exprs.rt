@@ -4,26 +4,23 @@ ghost use Rattle.query_meaning.specs.Words.{function_text};
 ghost use Rattle.tree_meaning.specs.WellFormed.{IsFormed, AreFormed, ArmsAreFormed};
 ghost use Rattle.print_meaning.specs.Print.{agg_word};
 ghost use Rattle.print_meaning.specs.Texts as texts;
-ghost use Rattle.query_tree.specs.View.{view, arm_view};
+ghost use Rattle.query_tree.specs.View.{view};
 
-use crate::literals::put_literal;
 use crate::paths::put_path;
-use crate::pieces::put;
 use crate::places::{arm_at, expr_at, put_separator};
-use crate::quotes::put_string;
+use crate::query_text::{QueryText, put, put_literal, put_string};
 use crate::words::{
     agg_name, cast_word, func_name, match_before, match_between, op_words, part_name, what_word,
 };
-use tree_meaning::AggName;
-use snel_values::{Bytes, OutOfMemory, Text};
-use tree_meaning::{BinOp, CastTo, Func, How, IsWhat, Part};
 use query_tree::{Arm, Arms, Expr, Exprs, Operand};
+use snel_values::{OutOfMemory, Text};
+use tree_meaning::{AggName, BinOp, CastTo, Func, How, IsWhat, Part};
 
 /// Adds the expression of a query whose row has this name. Each form has a function of its own, so that the frames of a
 /// deep tree are small.
 #[cycle(put)]
 #[tactic(auto, using(print_meaning::proofs::PrintedTexts::lit_text, print_meaning::proofs::PrintedTexts::path_text, print_meaning::proofs::PrintedTexts::rows_text))]
-pub(crate) fn put_expr(text: &mut Bytes, row: &str, expr: &Expr) -> Result<(), OutOfMemory>
+pub(crate) fn put_expr(text: &mut QueryText, row: &str, expr: &Expr) -> Result<(), OutOfMemory>
     requires { IsFormed (view expr.now) }
     ensures { OnOk result (text.new ≡ text.old ++ texts.text row.now (view expr.now)) }
 {
@@ -55,14 +52,15 @@ pub(crate) fn put_expr(text: &mut Bytes, row: &str, expr: &Expr) -> Result<(), O
 /// Adds the operand between two pieces.
 #[cycle(put)]
 fn put_within(
-    text: &mut Bytes,
+    text: &mut QueryText,
     before: &str,
     row: &str,
     of: &Operand,
     after: &str,
 ) -> Result<(), OutOfMemory>
     requires { IsFormed of.now }
-    ensures { OnOk result (text.new ≡ text.old ++ (before.now ++ (texts.text row.now of.now ++ after.now))) }
+    ensures { OnOk result (text.new ≡ text.old ++
+        (before.now ++ (texts.text row.now of.now ++ after.now))) }
 {
     put(text, before)?;
     put_expr(text, row, of.get())?;
@@ -72,7 +70,7 @@ fn put_within(
 /// Adds `(-of)`.
 #[cycle(put)]
 #[tactic(auto, using(print_meaning::proofs::PrintedTexts::neg_text))]
-fn put_neg(text: &mut Bytes, row: &str, of: &Operand) -> Result<(), OutOfMemory>
+fn put_neg(text: &mut QueryText, row: &str, of: &Operand) -> Result<(), OutOfMemory>
     requires { IsFormed of.now }
     ensures { OnOk result (text.new ≡ text.old ++ texts.text row.now (tree.neg of.now)) }
 {
@@ -82,7 +80,7 @@ fn put_neg(text: &mut Bytes, row: &str, of: &Operand) -> Result<(), OutOfMemory>
 /// Adds `(NOT of)`.
 #[cycle(put)]
 #[tactic(auto, using(print_meaning::proofs::PrintedTexts::not_text))]
-fn put_not(text: &mut Bytes, row: &str, of: &Operand) -> Result<(), OutOfMemory>
+fn put_not(text: &mut QueryText, row: &str, of: &Operand) -> Result<(), OutOfMemory>
     requires { IsFormed of.now }
     ensures { OnOk result (text.new ≡ text.old ++ texts.text row.now (tree.no of.now)) }
 {
@@ -93,14 +91,15 @@ fn put_not(text: &mut Bytes, row: &str, of: &Operand) -> Result<(), OutOfMemory>
 #[cycle(put)]
 #[tactic(auto, using(print_meaning::proofs::PrintedTexts::bin_text))]
 fn put_bin(
-    text: &mut Bytes,
+    text: &mut QueryText,
     row: &str,
     op: BinOp,
     left: &Operand,
     right: &Operand,
 ) -> Result<(), OutOfMemory>
     requires { IsFormed left.now × IsFormed right.now }
-    ensures { OnOk result (text.new ≡ text.old ++ texts.text row.now (tree.bin op left.now right.now)) }
+    ensures { OnOk result (text.new ≡ text.old ++
+        texts.text row.now (tree.bin op left.now right.now)) }
 {
     put_within(text, "(", row, left, op_words(op))?;
     put_within(text, "", row, right, ")")
@@ -109,7 +108,7 @@ fn put_bin(
 /// Adds `(of IS what)`.
 #[cycle(put)]
 #[tactic(auto, using(print_meaning::proofs::PrintedTexts::is_text))]
-fn put_is(text: &mut Bytes, row: &str, what: IsWhat, of: &Operand) -> Result<(), OutOfMemory>
+fn put_is(text: &mut QueryText, row: &str, what: IsWhat, of: &Operand) -> Result<(), OutOfMemory>
     requires { IsFormed of.now }
     ensures { OnOk result (text.new ≡ text.old ++ texts.text row.now (tree.is what of.now)) }
 {
@@ -121,10 +120,11 @@ fn put_is(text: &mut Bytes, row: &str, what: IsWhat, of: &Operand) -> Result<(),
 /// Adds `(of IN (list))`.
 #[cycle(put)]
 #[tactic(auto, using(print_meaning::proofs::PrintedTexts::member_text))]
-fn put_in(text: &mut Bytes, row: &str, of: &Operand, list: &Exprs) -> Result<(), OutOfMemory>
+fn put_in(text: &mut QueryText, row: &str, of: &Operand, list: &Exprs) -> Result<(), OutOfMemory>
     requires of { IsFormed of.now }
     requires list { AreFormed (tree.exs list.now) }
-    ensures { OnOk result (text.new ≡ text.old ++ texts.text row.now (tree.member of.now (tree.exs list.now))) }
+    ensures { OnOk result (text.new ≡ text.old ++
+        texts.text row.now (tree.member of.now (tree.exs list.now))) }
 {
     put_within(text, "(", row, of, " IN (")?;
     put_exprs(text, row, list)?;
@@ -135,14 +135,15 @@ fn put_in(text: &mut Bytes, row: &str, of: &Operand, list: &Exprs) -> Result<(),
 #[cycle(put)]
 #[tactic(auto, using(print_meaning::proofs::PrintedTexts::between_three))]
 fn put_between(
-    text: &mut Bytes,
+    text: &mut QueryText,
     row: &str,
     of: &Operand,
     low: &Operand,
     high: &Operand,
 ) -> Result<(), OutOfMemory>
     requires { IsFormed of.now × IsFormed low.now × IsFormed high.now }
-    ensures { OnOk result (text.new ≡ text.old ++ texts.text row.now (tree.between of.now low.now high.now)) }
+    ensures { OnOk result (text.new ≡ text.old ++
+        texts.text row.now (tree.between of.now low.now high.now)) }
 {
     put_within(text, "(", row, of, " BETWEEN ")?;
     put_within(text, "", row, low, " AND ")?;
@@ -153,14 +154,15 @@ fn put_between(
 #[cycle(put)]
 #[tactic(auto, using(crate::proofs::MatchTexts::matching_text))]
 fn put_match(
-    text: &mut Bytes,
+    text: &mut QueryText,
     row: &str,
     how: How,
     of: &Operand,
     matched: &Text,
 ) -> Result<(), OutOfMemory>
     requires { IsFormed of.now }
-    ensures { OnOk result (text.new ≡ text.old ++ texts.text row.now (tree.matching how of.now matched.now)) }
+    ensures { OnOk result (text.new ≡ text.old ++
+        texts.text row.now (tree.matching how of.now matched.now)) }
 {
     put_within(text, match_before(how), row, of, match_between(how))?;
     put_string(text, matched.as_str())?;
@@ -170,10 +172,16 @@ fn put_match(
 /// Adds the arms of a CASE, and its ELSE.
 #[cycle(put)]
 #[tactic(auto, using(print_meaning::proofs::PrintedTexts::case_text))]
-fn put_case(text: &mut Bytes, row: &str, arms: &Arms, other: &Operand) -> Result<(), OutOfMemory>
+fn put_case(
+    text: &mut QueryText,
+    row: &str,
+    arms: &Arms,
+    other: &Operand,
+) -> Result<(), OutOfMemory>
     requires arms { ArmsAreFormed (tree.arms arms.now) }
     requires other { IsFormed other.now }
-    ensures { OnOk result (text.new ≡ text.old ++ texts.text row.now (tree.choice (tree.arms arms.now) other.now)) }
+    ensures { OnOk result (text.new ≡ text.old ++
+        texts.text row.now (tree.choice (tree.arms arms.now) other.now)) }
 {
     put(text, "(CASE")?;
     put_arms(text, row, arms)?;
@@ -183,7 +191,7 @@ fn put_case(text: &mut Bytes, row: &str, arms: &Arms, other: &Operand) -> Result
 /// Adds `CAST(of AS to)`.
 #[cycle(put)]
 #[tactic(auto, using(print_meaning::proofs::PrintedTexts::cast_call_text))]
-fn put_cast(text: &mut Bytes, row: &str, of: &Operand, to: CastTo) -> Result<(), OutOfMemory>
+fn put_cast(text: &mut QueryText, row: &str, of: &Operand, to: CastTo) -> Result<(), OutOfMemory>
     requires { IsFormed of.now }
     ensures { OnOk result (text.new ≡ text.old ++ texts.text row.now (tree.cast to of.now)) }
 {
@@ -195,9 +203,10 @@ fn put_cast(text: &mut Bytes, row: &str, of: &Operand, to: CastTo) -> Result<(),
 /// Adds the call of a function of values.
 #[cycle(put)]
 #[tactic(auto, using(print_meaning::proofs::PrintedTexts::call_text))]
-fn put_call(text: &mut Bytes, row: &str, name: Func, args: &Exprs) -> Result<(), OutOfMemory>
+fn put_call(text: &mut QueryText, row: &str, name: Func, args: &Exprs) -> Result<(), OutOfMemory>
     requires { AreFormed (tree.exs args.now) }
-    ensures { OnOk result (text.new ≡ text.old ++ texts.text row.now (tree.call name (tree.exs args.now))) }
+    ensures { OnOk result (text.new ≡ text.old ++
+        texts.text row.now (tree.call name (tree.exs args.now))) }
 {
     put(text, func_name(name))?;
     put(text, "(")?;
@@ -208,7 +217,7 @@ fn put_call(text: &mut Bytes, row: &str, name: Func, args: &Exprs) -> Result<(),
 /// Adds `DATE_TRUNC(part, of)`.
 #[cycle(put)]
 #[tactic(auto, using(print_meaning::proofs::PrintedTexts::trunc_text))]
-fn put_trunc(text: &mut Bytes, row: &str, part: Part, of: &Operand) -> Result<(), OutOfMemory>
+fn put_trunc(text: &mut QueryText, row: &str, part: Part, of: &Operand) -> Result<(), OutOfMemory>
     requires { IsFormed of.now }
     ensures { OnOk result (text.new ≡ text.old ++ texts.text row.now (tree.trunc part of.now)) }
 {
@@ -220,7 +229,7 @@ fn put_trunc(text: &mut Bytes, row: &str, part: Part, of: &Operand) -> Result<()
 /// Adds `EXTRACT(part FROM of)`.
 #[cycle(put)]
 #[tactic(auto, using(print_meaning::proofs::PrintedTexts::extract_text))]
-fn put_extract(text: &mut Bytes, row: &str, part: Part, of: &Operand) -> Result<(), OutOfMemory>
+fn put_extract(text: &mut QueryText, row: &str, part: Part, of: &Operand) -> Result<(), OutOfMemory>
     requires { IsFormed of.now }
     ensures { OnOk result (text.new ≡ text.old ++ texts.text row.now (tree.extract part of.now)) }
 {
@@ -233,14 +242,15 @@ fn put_extract(text: &mut Bytes, row: &str, part: Part, of: &Operand) -> Result<
 #[cycle(put)]
 #[tactic(auto, using(print_meaning::proofs::PrintedTexts::shift_text))]
 fn put_shift(
-    text: &mut Bytes,
+    text: &mut QueryText,
     row: &str,
     part: Part,
     count: &Operand,
     of: &Operand,
 ) -> Result<(), OutOfMemory>
     requires { IsFormed count.now × IsFormed of.now }
-    ensures { OnOk result (text.new ≡ text.old ++ texts.text row.now (tree.shift part count.now of.now)) }
+    ensures { OnOk result (text.new ≡ text.old ++
+        texts.text row.now (tree.shift part count.now of.now)) }
 {
     put(text, "DATE_ADD(")?;
     put(text, part_name(part))?;
@@ -249,7 +259,7 @@ fn put_shift(
 }
 
 /// Adds the call of an aggregate of rows.
-fn put_count_of_rows(text: &mut Bytes, name: AggName) -> Result<(), OutOfMemory>
+fn put_count_of_rows(text: &mut QueryText, name: AggName) -> Result<(), OutOfMemory>
     ensures { OnOk result (text.new ≡ text.old ++ (function_text (agg_word name) ++ codes "(*)")) }
 {
     put(text, agg_name(name))?;
@@ -259,7 +269,7 @@ fn put_count_of_rows(text: &mut Bytes, name: AggName) -> Result<(), OutOfMemory>
 /// Adds the call of an aggregate of an expression.
 #[cycle(put)]
 #[tactic(auto, using(print_meaning::proofs::PrintedTexts::agg_text))]
-fn put_agg(text: &mut Bytes, row: &str, name: AggName, of: &Operand) -> Result<(), OutOfMemory>
+fn put_agg(text: &mut QueryText, row: &str, name: AggName, of: &Operand) -> Result<(), OutOfMemory>
     requires { IsFormed of.now }
     ensures { OnOk result (text.new ≡ text.old ++ texts.text row.now (tree.agg name of.now)) }
 {
@@ -269,17 +279,18 @@ fn put_agg(text: &mut Bytes, row: &str, name: AggName, of: &Operand) -> Result<(
 
 /// Adds the expression of a list at a place, counted from 0, behind `, ` where one stands before.
 #[cycle(put)]
-fn put_listed(text: &mut Bytes, row: &str, expr: &Expr, at: usize) -> Result<(), OutOfMemory>
-    requires { IsFormed (view expr.now) }
-    ensures { OnOk result (text.new ≡ text.old ++ (texts.separator at ++ texts.text row.now (view expr.now))) }
+fn put_listed(text: &mut QueryText, row: &str, of: &Operand, at: usize) -> Result<(), OutOfMemory>
+    requires { IsFormed of.now }
+    ensures { OnOk result (text.new ≡ text.old ++
+        (texts.separator at ++ texts.text row.now of.now)) }
 {
     put_separator(text, at)?;
-    put_expr(text, row, expr)
+    put_expr(text, row, of.get())
 }
 
 /// Adds the expressions with `, ` between them.
 #[cycle(put)]
-pub(crate) fn put_exprs(text: &mut Bytes, row: &str, list: &Exprs) -> Result<(), OutOfMemory>
+pub(crate) fn put_exprs(text: &mut QueryText, row: &str, list: &Exprs) -> Result<(), OutOfMemory>
     requires { AreFormed (tree.exs list.now) }
     ensures { OnOk result (text.new ≡ text.old ++ texts.list_text row.now list.now) }
 {
@@ -291,19 +302,19 @@ pub(crate) fn put_exprs(text: &mut Bytes, row: &str, list: &Exprs) -> Result<(),
 
 /// Adds ` WHEN test THEN value`.
 #[cycle(put)]
-fn put_arm(text: &mut Bytes, row: &str, arm: &Arm) -> Result<(), OutOfMemory>
-    requires { IsFormed (view arm.now.test) × IsFormed (view arm.now.value) }
-    ensures { OnOk result (text.new ≡ text.old ++ (codes " WHEN " ++ (texts.text row.now (view arm.now.test) ++ (codes " THEN " ++ texts.text row.now (view arm.now.value))))) }
+fn put_arm(text: &mut QueryText, row: &str, arm: &Arm) -> Result<(), OutOfMemory>
+    requires { IsFormed arm.now.test × IsFormed arm.now.value }
+    ensures { OnOk result (text.new ≡ text.old ++
+        (codes " WHEN " ++ (texts.text row.now arm.now.test ++
+        (codes " THEN " ++ texts.text row.now arm.now.value)))) }
 {
-    put(text, " WHEN ")?;
-    put_expr(text, row, &arm.test)?;
-    put(text, " THEN ")?;
-    put_expr(text, row, &arm.value)
+    put_within(text, " WHEN ", row, &arm.test, " THEN ")?;
+    put_within(text, "", row, &arm.value, "")
 }
 
 /// Adds the arms of a CASE, each behind a space.
 #[cycle(put)]
-fn put_arms(text: &mut Bytes, row: &str, list: &Arms) -> Result<(), OutOfMemory>
+fn put_arms(text: &mut QueryText, row: &str, list: &Arms) -> Result<(), OutOfMemory>
     requires { ArmsAreFormed (tree.arms list.now) }
     ensures { OnOk result (text.new ≡ text.old ++ texts.arms_text row.now list.now) }
 {

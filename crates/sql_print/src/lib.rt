@@ -1,17 +1,15 @@
-//! The printing of queries: each operator form in parentheses, every name quoted, so that what is printed is read again.
+//! The printing of queries, by [`print`], as in `print(alloc, &query)?.as_str()`: each operator form in parentheses,
+//! every name quoted, so that what is printed is read again.
 #![tactic(auto)]
 
 mod clauses;
 mod exprs;
 mod lists;
-mod literals;
 mod paths;
-mod pieces;
 mod places;
 mod query;
-mod quotes;
+mod query_text;
 mod words;
 
-pub use literals::put_literal;
 pub use query::print;
-pub use quotes::{put_name, put_string};
+pub use query_text::QueryText;

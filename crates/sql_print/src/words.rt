@@ -4,8 +4,7 @@ ghost use Rattle.print_meaning.specs.Print.{op_mark, what_mark, func_word, agg_w
 ghost use Rattle.print_meaning.specs.Texts.{between_text};
 ghost use Rattle.sql_print.specs.Matches as matches;
 
-use tree_meaning::AggName;
-use tree_meaning::{BinOp, CastTo, Func, How, IsWhat, Part};
+use tree_meaning::{AggName, BinOp, CastTo, Func, How, IsWhat, Part};
 
 /// The operator, between spaces.
 pub(crate) fn op_words(op: BinOp) -> &'static str

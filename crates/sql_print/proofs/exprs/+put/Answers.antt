@@ -2,7 +2,7 @@ use Rattle.std.proofs.Common.{◌≡◌, ◌∙◌, ℕ, List, [], ◌++◌, ap,
 use Rattle.std.specs.Prelude.{codes}
 use Rattle.tree_meaning.specs.Tree.{exs, arms, bin, is, member, between, matching, choice, cast, call, trunc, extract, shift, agg}
 use Rattle.query_meaning.specs.Words.{mark_text, function_text, part_text, cast_text}
-use Rattle.query_tree.specs.View.{view, arm_view}
+use Rattle.query_tree.specs.View.{arm_view}
 use Rattle.print_meaning.specs.Pieces.{in_quotes}
 use Rattle.print_meaning.specs.Print.{op_mark, what_mark, func_word, agg_word}
 use Rattle.print_meaning.specs.Texts.{text, list_text, arms_text, between_text}
@@ -36,12 +36,12 @@ put_bin-returns t c =
 
 pub put_exprs-put_listed-requires : goal.put_exprs-put_listed-requires
 put_exprs-put_listed-requires t c =
-    let smaller = expr_smaller c.args.list.now c.loop-at.at (view c.expr_at.result.now) c.expr_at.ensures in
-    (omega (arith, smaller, c.requires.1.0), expr_formed c.args.list.now c.loop-at.at (view c.expr_at.result.now) c.requires.1.1 c.expr_at.ensures)
+    let smaller = expr_smaller c.args.list.now c.loop-at.at c.expr_at.result.now c.expr_at.ensures in
+    (omega (arith, smaller, c.requires.1.0), expr_formed c.args.list.now c.loop-at.at c.expr_at.result.now c.requires.1.1 c.expr_at.ensures)
 
 pub put_exprs-loop-at-preserved : goal.put_exprs-loop-at-preserved
 put_exprs-loop-at-preserved t c =
-    lists_one (text c.args.row.now) c.args.text.now c.loop-at.text c.put_listed.new.text c.loop-at.at c.args.list.now (view c.expr_at.result.now) c.expr_at.ensures c.in_ok-put_listed.ensures c.loop-at.invariant
+    lists_one (text c.args.row.now) c.args.text.now c.loop-at.text c.put_listed.new.text c.loop-at.at c.args.list.now c.expr_at.result.now c.expr_at.ensures c.in_ok-put_listed.ensures c.loop-at.invariant
 
 pub put_exprs-returns : goal.put_exprs-returns
 put_exprs-returns t c =

@@ -54,13 +54,13 @@ abbrev pub decreases-put_agg : goal.decreases-put_agg
 decreases-put_agg l = 3 * size l.of.now + 2
 
 abbrev pub decreases-put_listed : goal.decreases-put_listed
-decreases-put_listed l = 3 * size (view l.expr.now) + 1
+decreases-put_listed l = 3 * size l.of.now + 1
 
 abbrev pub decreases-put_exprs : goal.decreases-put_exprs
 decreases-put_exprs l = 3 * exs_size (exs l.list.now) + 1
 
 abbrev pub decreases-put_arm : goal.decreases-put_arm
-decreases-put_arm l = 3 * (size (view l.arm.now.test) + size (view l.arm.now.value)) + 1
+decreases-put_arm l = 3 * (size l.arm.now.test + size l.arm.now.value) + 2
 
 abbrev pub decreases-put_arms : goal.decreases-put_arms
 decreases-put_arms l = 3 * arms_size (arms l.list.now) + 1

@@ -10,16 +10,6 @@ use crate::quotes::put_string;
 use snel_values::{Bytes, OutOfMemory, Value};
 use time_print::put_time;
 
-/// Adds the text of the time between backticks.
-fn put_moment(text: &mut Bytes, micros: i64) -> Result<(), OutOfMemory>
-    requires { IsTime micros }
-    ensures { OnOk result (text.new ≡ text.old ++ 96 ∷ (time_text micros ++ 96 ∷ [])) }
-{
-    put(text, "`")?;
-    put_time(text, micros)?;
-    put(text, "`")
-}
-
 /// Adds the literal: NULL, MISSING, TRUE, FALSE, decimal digits, a string or a time between backticks. A literal of a
 /// query is no list, no struct and no negative number. For want of memory some of it may stand behind the bytes.
 #[tactic(auto, using(crate::proofs::LiteralTexts::int_text, crate::proofs::LiteralTexts::moment_text, crate::proofs::LiteralTexts::string_text), unfolding(print_meaning::specs::Texts::literal_text, print_meaning::specs::Pieces::spelling))]
@@ -38,4 +28,14 @@ pub fn put_literal(text: &mut Bytes, value: &Value) -> Result<(), OutOfMemory>
         Value::List(_) => unreachable!(),
         Value::Struct(_) => unreachable!(),
     }
+}
+
+/// Adds the text of the time between backticks.
+fn put_moment(text: &mut Bytes, micros: i64) -> Result<(), OutOfMemory>
+    requires { IsTime micros }
+    ensures { OnOk result (text.new ≡ text.old ++ 96 ∷ (time_text micros ++ 96 ∷ [])) }
+{
+    put(text, "`")?;
+    put_time(text, micros)?;
+    put(text, "`")
 }

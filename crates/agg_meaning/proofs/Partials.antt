@@ -7,9 +7,10 @@ use Rattle.std.specs.List.Sorted.{IsPermutation}
 use Rattle.value_meaning.specs.Val.{Val}
 use Rattle.tree_meaning.specs.declared.AggName.{AggName}
 use Rattle.tree_meaning.specs.declared.AggName.TheVariants as aggs
-use Rattle.agg_meaning.specs.Operands.{is_there, number_in, time_in, truth_in, numbers, truths}
+use Rattle.eval_meaning.specs.LogicLaws.{is_present}
+use Rattle.agg_meaning.specs.Operands.{number_in, time_in, truth_in, numbers, truths}
 use Rattle.agg_meaning.specs.Aggregates.{aggregate, total, both, either}
-use Rattle.agg_meaning.specs.State.{state_of, joined, value_of, counted, summed, number, moment, answer}
+use Rattle.agg_meaning.specs.Partials.{partial_of, joined, finished, counted, summed, best_number, best_time, truth_so_far}
 use Rattle.agg_meaning.specs.Better.{better}
 use Rattle.agg_meaning.proofs.Summaries.{Joins, join-append, join-shuffled, reduce-append, better-assoc, better-comm}
 
@@ -63,7 +64,7 @@ abbrev pub one_if : Bool → ℕ
 one_if true = 1
 one_if false = 0
 
-count-cons : (v : Val) (vs : List Val) → length (filter is_there (v ∷ vs)) ≡ one_if (is_there v) + length (filter is_there vs)
+count-cons : (v : Val) (vs : List Val) → length (filter is_present (v ∷ vs)) ≡ one_if (is_present v) + length (filter is_present vs)
 count-cons v vs = grind arith
 
 abbrev add : ℕ → ℕ → ℕ
@@ -75,7 +76,7 @@ add_ℤ a b = a +ℤ b
 pub rows_join : Joins length (λ (v : Val). 1) add
 rows_join = record { empty = λ s. omega arith; cons = λ v vs. omega arith; assoc = λ a b c. omega arith; comm = λ a b. omega arith }
 
-pub there_joins : Joins (λ vs. length (filter is_there vs)) (λ v. one_if (is_there v)) add
+pub there_joins : Joins (λ vs. length (filter is_present vs)) (λ v. one_if (is_present v)) add
 there_joins = record { empty = λ s. omega arith; cons = count-cons; assoc = λ a b c. omega arith; comm = λ a b. omega arith }
 
 pub numbers_join : Joins (λ vs. length (numbers vs)) (λ v. length (number_in v)) add
@@ -100,52 +101,52 @@ summed_joined : (vs ws : List Val) → summed (length (numbers (vs ++ ws))) (tot
 summed_joined vs ws = λ i. summed (join-append _ _ _ numbers_join vs ws i) (join-append _ _ _ total_joins vs ws i)
 
 -- of a list that is made of two
-pub state_joined : (n : AggName) (vs ws : List Val) → state_of n (vs ++ ws) ≡ joined n (state_of n vs) (state_of n ws)
-state_joined aggs.CountAll vs ws = ap counted (join-append _ _ _ rows_join vs ws)
-state_joined aggs.Count vs ws = ap counted (join-append _ _ _ there_joins vs ws)
-state_joined aggs.Sum vs ws = summed_joined vs ws
-state_joined aggs.Avg vs ws = summed_joined vs ws
-state_joined aggs.Min vs ws = ap number (join-append _ _ _ (least_joins number_in) vs ws)
-state_joined aggs.Max vs ws = ap number (join-append _ _ _ (greatest_joins number_in) vs ws)
-state_joined aggs.Earliest vs ws = ap moment (join-append _ _ _ (least_joins time_in) vs ws)
-state_joined aggs.Latest vs ws = ap moment (join-append _ _ _ (greatest_joins time_in) vs ws)
-state_joined aggs.BoolAnd vs ws = ap answer (join-append _ _ _ both_joins vs ws)
-state_joined aggs.BoolOr vs ws = ap answer (join-append _ _ _ either_joins vs ws)
+pub partial_joined : (n : AggName) (vs ws : List Val) → partial_of n (vs ++ ws) ≡ joined n (partial_of n vs) (partial_of n ws)
+partial_joined aggs.CountAll vs ws = ap counted (join-append _ _ _ rows_join vs ws)
+partial_joined aggs.Count vs ws = ap counted (join-append _ _ _ there_joins vs ws)
+partial_joined aggs.Sum vs ws = summed_joined vs ws
+partial_joined aggs.Avg vs ws = summed_joined vs ws
+partial_joined aggs.Min vs ws = ap best_number (join-append _ _ _ (least_joins number_in) vs ws)
+partial_joined aggs.Max vs ws = ap best_number (join-append _ _ _ (greatest_joins number_in) vs ws)
+partial_joined aggs.Earliest vs ws = ap best_time (join-append _ _ _ (least_joins time_in) vs ws)
+partial_joined aggs.Latest vs ws = ap best_time (join-append _ _ _ (greatest_joins time_in) vs ws)
+partial_joined aggs.BoolAnd vs ws = ap truth_so_far (join-append _ _ _ both_joins vs ws)
+partial_joined aggs.BoolOr vs ws = ap truth_so_far (join-append _ _ _ either_joins vs ws)
 
 summed_shuffled : (vs ws : List Val) → IsPermutation vs ws → summed (length (numbers ws)) (total (numbers ws)) ≡ summed (length (numbers vs)) (total (numbers vs))
 summed_shuffled vs ws p = λ i. summed (join-shuffled _ _ _ numbers_join vs ws p i) (join-shuffled _ _ _ total_joins vs ws p i)
 
-pub state_shuffled : (n : AggName) (vs ws : List Val) → IsPermutation vs ws → state_of n ws ≡ state_of n vs
-state_shuffled aggs.CountAll vs ws p = ap counted (join-shuffled _ _ _ rows_join vs ws p)
-state_shuffled aggs.Count vs ws p = ap counted (join-shuffled _ _ _ there_joins vs ws p)
-state_shuffled aggs.Sum vs ws p = summed_shuffled vs ws p
-state_shuffled aggs.Avg vs ws p = summed_shuffled vs ws p
-state_shuffled aggs.Min vs ws p = ap number (join-shuffled _ _ _ (least_joins number_in) vs ws p)
-state_shuffled aggs.Max vs ws p = ap number (join-shuffled _ _ _ (greatest_joins number_in) vs ws p)
-state_shuffled aggs.Earliest vs ws p = ap moment (join-shuffled _ _ _ (least_joins time_in) vs ws p)
-state_shuffled aggs.Latest vs ws p = ap moment (join-shuffled _ _ _ (greatest_joins time_in) vs ws p)
-state_shuffled aggs.BoolAnd vs ws p = ap answer (join-shuffled _ _ _ both_joins vs ws p)
-state_shuffled aggs.BoolOr vs ws p = ap answer (join-shuffled _ _ _ either_joins vs ws p)
+pub partial_shuffled : (n : AggName) (vs ws : List Val) → IsPermutation vs ws → partial_of n ws ≡ partial_of n vs
+partial_shuffled aggs.CountAll vs ws p = ap counted (join-shuffled _ _ _ rows_join vs ws p)
+partial_shuffled aggs.Count vs ws p = ap counted (join-shuffled _ _ _ there_joins vs ws p)
+partial_shuffled aggs.Sum vs ws p = summed_shuffled vs ws p
+partial_shuffled aggs.Avg vs ws p = summed_shuffled vs ws p
+partial_shuffled aggs.Min vs ws p = ap best_number (join-shuffled _ _ _ (least_joins number_in) vs ws p)
+partial_shuffled aggs.Max vs ws p = ap best_number (join-shuffled _ _ _ (greatest_joins number_in) vs ws p)
+partial_shuffled aggs.Earliest vs ws p = ap best_time (join-shuffled _ _ _ (least_joins time_in) vs ws p)
+partial_shuffled aggs.Latest vs ws p = ap best_time (join-shuffled _ _ _ (greatest_joins time_in) vs ws p)
+partial_shuffled aggs.BoolAnd vs ws p = ap truth_so_far (join-shuffled _ _ _ both_joins vs ws p)
+partial_shuffled aggs.BoolOr vs ws p = ap truth_so_far (join-shuffled _ _ _ either_joins vs ws p)
 
-summed_value : (n : AggName) (ns : List ℤ) → value_of aggs.Sum (summed (length ns) (total ns)) ≡ Rattle.agg_meaning.specs.Aggregates.sum_of ns
+summed_value : (n : AggName) (ns : List ℤ) → finished aggs.Sum (summed (length ns) (total ns)) ≡ Rattle.agg_meaning.specs.Aggregates.sum_of ns
 summed_value n [] = refl
 summed_value n (m ∷ ms) = refl
 
-averaged_value : (ns : List ℤ) → value_of aggs.Avg (summed (length ns) (total ns)) ≡ Rattle.agg_meaning.specs.Aggregates.average_of ns
+averaged_value : (ns : List ℤ) → finished aggs.Avg (summed (length ns) (total ns)) ≡ Rattle.agg_meaning.specs.Aggregates.average_of ns
 averaged_value [] = refl
 averaged_value (m ∷ ms) = refl
 
-pub state_value : (n : AggName) (vs : List Val) → value_of n (state_of n vs) ≡ aggregate n vs
-state_value aggs.CountAll vs = refl
-state_value aggs.Count vs = refl
-state_value aggs.Sum vs = summed_value aggs.Sum (numbers vs)
-state_value aggs.Avg vs = averaged_value (numbers vs)
-state_value aggs.Min vs = refl
-state_value aggs.Max vs = refl
-state_value aggs.Earliest vs = refl
-state_value aggs.Latest vs = refl
-state_value aggs.BoolAnd vs = refl
-state_value aggs.BoolOr vs = refl
+pub partial_value : (n : AggName) (vs : List Val) → finished n (partial_of n vs) ≡ aggregate n vs
+partial_value aggs.CountAll vs = refl
+partial_value aggs.Count vs = refl
+partial_value aggs.Sum vs = summed_value aggs.Sum (numbers vs)
+partial_value aggs.Avg vs = averaged_value (numbers vs)
+partial_value aggs.Min vs = refl
+partial_value aggs.Max vs = refl
+partial_value aggs.Earliest vs = refl
+partial_value aggs.Latest vs = refl
+partial_value aggs.BoolAnd vs = refl
+partial_value aggs.BoolOr vs = refl
 
 pub aggregate_shuffled : (n : AggName) (vs ws : List Val) → IsPermutation vs ws → aggregate n ws ≡ aggregate n vs
-aggregate_shuffled n vs ws p = sym (state_value n ws) ∙ ap (value_of n) (state_shuffled n vs ws p) ∙ state_value n vs
+aggregate_shuffled n vs ws p = sym (partial_value n ws) ∙ ap (finished n) (partial_shuffled n vs ws p) ∙ partial_value n vs
