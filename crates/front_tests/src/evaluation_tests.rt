@@ -17,61 +17,6 @@ fn first_output(query: &Query) -> Option<&Operand> {
     }
 }
 
-// The value of the first output on a row.
-fn first_value(alloc: Global, query: &Query, row: &Value) -> Option<Value> {
-    match first_output(query) {
-        Some(expr) => eval_row(alloc, expr.get(), row).ok(),
-        None => None,
-    }
-}
-
-// The value of the first output of a text's query.
-fn value_of(alloc: Global, text: &str, row: &Value) -> Option<Value> {
-    match read(alloc, text) {
-        Ok(query) => first_value(alloc, &query, row),
-        Err(_) => None,
-    }
-}
-
-fn numbered(before: &'static str, number: i128) -> Words {
-    Words {
-        before,
-        number: Some(number),
-        behind: "",
-    }
-}
-
-// A value in words; a time counts microseconds from 1970-01-01T00:00:00Z.
-fn said(value: &Value) -> Words {
-    match value {
-        Value::Missing => plain("MISSING"),
-        Value::Null => plain("NULL"),
-        Value::Bool(true) => plain("TRUE"),
-        Value::Bool(false) => plain("FALSE"),
-        Value::Int(number) => numbered("", *number),
-        Value::Time(micros) => numbered("time ", i128::from(*micros)),
-        Value::Text(_) => plain("a text"),
-        Value::List(_) => plain("a list"),
-        Value::Struct(_) => plain("a struct"),
-    }
-}
-
-// Whether this is the value of the first output of a text's query.
-fn is_value(alloc: Global, text: &str, row: &Value, wanted: &str) -> bool {
-    match value_of(alloc, text, row) {
-        Some(value) => said(&value).are(wanted),
-        None => false,
-    }
-}
-
-// Whether an expression has this value on a row.
-fn has_value(alloc: Global, expression: &str, row: &Value, wanted: &str) -> bool {
-    match spell(alloc, &["SELECT ", expression, "", "", " FROM t"], 1) {
-        Ok(text) => is_value(alloc, text.as_str(), row, wanted),
-        Err(_) => false,
-    }
-}
-
 // `{"a":1,"b":"x"}`
 fn with_both(alloc: Global) -> Result<Value, OutOfMemory> {
     let mut pairs = Pairs::new(alloc);
@@ -103,18 +48,79 @@ fn with_list(alloc: Global) -> Result<Value, OutOfMemory> {
     with_one(alloc, "a", list(alloc)?)
 }
 
-// The row `{"a":1,"b":"x"}`, `{"a":null}`, `{"b":7}` or `{"a":[1,null]}`.
+// The row `{"a":1,"b":"x"}`, `{"a":null}`, `{"b":7}` or `{"a":[1,null]}` by its place, and else NULL.
 fn row(alloc: Global, at: usize) -> Result<Value, OutOfMemory> {
     match at {
         0 => with_both(alloc),
         1 => with_one(alloc, "a", Value::Null),
         2 => with_one(alloc, "b", Value::Int(7)),
-        _ => with_list(alloc),
+        3 => with_list(alloc),
+        _ => Ok(Value::Null),
+    }
+}
+
+// The value of the first output on the row at a place.
+fn first_value(alloc: Global, query: &Query, at: usize) -> Result<Value, OutOfMemory> {
+    let row = row(alloc, at)?;
+    match first_output(query) {
+        Some(expr) => eval_row(alloc, expr.get(), &row),
+        None => Ok(Value::Missing),
+    }
+}
+
+fn value_of_query(alloc: Global, query: Query, at: usize) -> Option<Value> {
+    first_value(alloc, &query, at).ok()
+}
+
+// The same of a text's query.
+fn value_of(alloc: Global, text: &str, at: usize) -> Option<Value> {
+    match read(alloc, text) {
+        Ok(query) => value_of_query(alloc, query, at),
+        Err(_) => None,
+    }
+}
+
+fn numbered(before: &'static str, number: i128) -> Words {
+    Words {
+        before,
+        number: Some(number),
+        behind: "",
+    }
+}
+
+// A value in words; a time counts microseconds from 1970-01-01T00:00:00Z.
+fn said(value: &Value) -> Words {
+    match value {
+        Value::Missing => plain("MISSING"),
+        Value::Null => plain("NULL"),
+        Value::Bool(true) => plain("TRUE"),
+        Value::Bool(false) => plain("FALSE"),
+        Value::Int(number) => numbered("", *number),
+        Value::Time(micros) => numbered("time ", i128::from(*micros)),
+        Value::Text(_) => plain("a text"),
+        Value::List(_) => plain("a list"),
+        Value::Struct(_) => plain("a struct"),
+    }
+}
+
+// Whether this is the value of the first output of a text's query.
+fn is_value(alloc: Global, text: &str, at: usize, wanted: &str) -> bool {
+    match value_of(alloc, text, at) {
+        Some(value) => said(&value).are(wanted),
+        None => false,
+    }
+}
+
+// Whether an expression has this value on the row at a place.
+fn has_value(alloc: Global, expression: &str, at: usize, wanted: &str) -> bool {
+    match spell(alloc, &["SELECT ", expression, "", "", " FROM t"], 1) {
+        Ok(text) => is_value(alloc, text.as_str(), at, wanted),
+        Err(_) => false,
     }
 }
 
 // Expressions, and their values on the four rows.
-const ON_ROWS: [(&str, [&str; 4]); 9] = [
+static ON_ROWS: [(&str, [&str; 4]); 9] = [
     (
         "a IS NOT MISSING AND NOT (a IS NULL)",
         ["TRUE", "FALSE", "FALSE", "TRUE"],
@@ -135,25 +141,20 @@ const ON_ROWS: [(&str, [&str; 4]); 9] = [
     ("a[3]", ["MISSING", "MISSING", "MISSING", "MISSING"]),
 ];
 
-// Whether an expression has this value on the row at a place.
-fn has_value_on(alloc: Global, expression: &str, at: usize, wanted: &str) -> bool {
-    match row(alloc, at) {
-        Ok(row) => has_value(alloc, expression, &row, wanted),
-        Err(_) => false,
-    }
-}
-
 #[test]
 fn expressions_have_their_values_on_rows(rt: HostRuntime) {
     for (expression, values) in &ON_ROWS {
         for at in 0..4usize {
-            assert!(rt; has_value_on(rt.alloc(), expression, at, values[at]), "{expression}");
+            assert!(rt;
+                has_value(rt.alloc(), expression, at, values[at]),
+                "{expression}"
+            );
         }
     }
 }
 
 // Expressions without paths, and their values.
-const VALUES: [(&str, &str); 40] = [
+static VALUES: [(&str, &str); 40] = [
     ("-7 / 2", "-3"),
     ("-7 % 2", "-1"),
     ("1 / 0", "MISSING"),
@@ -224,7 +225,7 @@ const VALUES: [(&str, &str); 40] = [
 fn expressions_without_paths_have_their_values(rt: HostRuntime) {
     for (expression, wanted) in &VALUES {
         assert!(rt;
-            has_value(rt.alloc(), expression, &Value::Null, wanted),
+            has_value(rt.alloc(), expression, 4, wanted),
             "{expression}"
         );
     }

@@ -11,8 +11,6 @@ mod printed;
 #[cfg(test)]
 mod printing_tests;
 #[cfg(test)]
-mod reading_tests;
-#[cfg(test)]
 mod reasons;
 #[cfg(test)]
 mod refusal_tests;

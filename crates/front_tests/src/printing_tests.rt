@@ -1,12 +1,12 @@
 use crate::printed::prints;
 use crate::spelling::{Parts, spell};
 use snel_values::{Bytes, OutOfMemory, Value};
-use sql_print::{put_literal, put_name, put_string};
+use sql_pieces::{put_literal, put_name, put_string};
 use std::alloc::Global;
 
 // Whether a text is a query, which is printed so and, read again, printed so again.
 fn is_printed(alloc: Global, text: &str, wanted: &str) -> bool {
-    prints(alloc, text, wanted.as_bytes()) && prints(alloc, wanted, wanted.as_bytes())
+    prints(alloc, text, wanted) && prints(alloc, wanted, wanted)
 }
 
 // The same of two texts of parts.
@@ -15,13 +15,13 @@ fn are_printed(alloc: Global, parts: &Parts<'_>, wanted: &Parts<'_>, times: u32)
         return false
     };
     match spell(alloc, wanted, times) {
-        Ok(wanted) => prints(alloc, text.as_str(), wanted.as_bytes()),
+        Ok(wanted) => prints(alloc, text.as_str(), wanted.as_str()),
         Err(_) => false,
     }
 }
 
 // Expressions, and how they are printed in a query over t.
-const EXPRESSIONS: [(&str, &str); 61] = [
+static EXPRESSIONS: [(&str, &str); 61] = [
     ("null", "NULL"),
     ("missing", "MISSING"),
     ("true", "TRUE"),
@@ -107,13 +107,19 @@ fn is_printed_in_where(alloc: Global, expression: &str, wanted: &str) -> bool {
 #[test]
 fn expressions_are_printed_in_one_way(rt: HostRuntime) {
     for (expression, wanted) in &EXPRESSIONS {
-        assert!(rt; is_printed_in_where(rt.alloc(), expression, wanted), "{expression}");
-        assert!(rt; is_printed_in_where(rt.alloc(), wanted, wanted), "{expression}");
+        assert!(rt;
+            is_printed_in_where(rt.alloc(), expression, wanted),
+            "{expression}"
+        );
+        assert!(rt;
+            is_printed_in_where(rt.alloc(), wanted, wanted),
+            "{expression}"
+        );
     }
 }
 
 // Queries, and how they are printed.
-const QUERIES: [(&str, &str); 2] = [
+static QUERIES: [(&str, &str); 2] = [
     (
         "select a from t where not a=1",
         "SELECT \"t\".\"a\" FROM \"t\" WHERE (NOT (\"t\".\"a\" = 1))",
@@ -132,7 +138,7 @@ fn printed_queries_are_read_and_printed_again(rt: HostRuntime) {
 }
 
 // Chains of 2,000 levels, which fit the stack.
-const CHAINS: [(Parts<'static>, Parts<'static>); 2] = [
+static CHAINS: [(Parts<'static>, Parts<'static>); 2] = [
     (
         ["SELECT * FROM t WHERE ", "NOT ", "a", "", ""],
         [
@@ -156,15 +162,23 @@ fn deep_trees_fit_the_stack(rt: HostRuntime) {
     }
 }
 
-fn put_three(text: &mut Bytes) -> Result<(), OutOfMemory> {
-    put_name(text, "a\"'")?;
-    put_string(text, "a\"'")?;
-    put_literal(text, &Value::Int(7))
+// A name, a string and a literal, one after the other.
+fn put_three(alloc: Global) -> Result<Bytes, OutOfMemory> {
+    let mut text = Bytes::new(alloc);
+    put_name(&mut text, "a\"'")?;
+    put_string(&mut text, "a\"'")?;
+    put_literal(&mut text, &Value::Int(7))?;
+    Ok(text)
+}
+
+fn puts_three(alloc: Global, wanted: &str) -> bool {
+    match put_three(alloc) {
+        Ok(text) => text.as_slice() == wanted.as_bytes(),
+        Err(_) => false,
+    }
 }
 
 #[test]
 fn names_strings_and_literals_are_printed(rt: HostRuntime) {
-    let mut text = Bytes::new(rt.alloc());
-    assert!(rt; put_three(&mut text).is_ok());
-    assert!(rt; text.as_slice() == b"\"a\"\"'\"'a\"'''7".as_slice());
+    assert!(rt; puts_three(rt.alloc(), "\"a\"\"'\"'a\"'''7"));
 }

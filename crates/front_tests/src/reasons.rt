@@ -66,26 +66,30 @@ fn of_query(fault: CheckFault) -> Words {
     }
 }
 
-/// Why a text is no query.
-pub(crate) fn why_unread(alloc: Global, text: &str) -> Words {
-    match read(alloc, text).err() {
-        Some(fault) => of_text(fault),
+/// Why a query isn't accepted.
+fn why_unaccepted(alloc: Global, query: Query) -> Words {
+    match check(alloc, query).err() {
+        Some(fault) => of_query(fault),
         None => plain(""),
     }
 }
 
-fn why_unanswered(alloc: Global, query: Query) -> Words {
-    let built = is_lowered(&query);
-    match check(alloc, query).err() {
-        Some(fault) => of_query(fault),
-        None => plain(if built { "" } else { "not built yet" }),
+/// Why a text is no accepted query.
+pub(crate) fn why_refused(alloc: Global, text: &str) -> Words {
+    match read(alloc, text) {
+        Ok(query) => why_unaccepted(alloc, query),
+        Err(fault) => of_text(fault),
     }
 }
 
-/// Why a text isn't answered.
-pub(crate) fn why_refused(alloc: Global, text: &str) -> Words {
+fn is_lowered_query(query: Query) -> bool {
+    is_lowered(&query)
+}
+
+/// Whether queries of the form of a text's query are built.
+pub(crate) fn is_built(alloc: Global, text: &str) -> bool {
     match read(alloc, text) {
-        Ok(query) => why_unanswered(alloc, query),
-        Err(fault) => of_text(fault),
+        Ok(query) => is_lowered_query(query),
+        Err(_) => false,
     }
 }

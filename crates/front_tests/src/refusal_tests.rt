@@ -1,15 +1,42 @@
-use crate::reasons::why_refused;
+use crate::reasons::{is_built, why_refused};
 use crate::spelling::{Parts, spell};
 use query_check::{Checked, check};
 use query_tree::Query;
 use sql_reader::read;
 use std::alloc::Global;
 
-// Texts, and why they aren't answered; no words stand beside a query that is.
-const TEXTS: [(&str, &str); 28] = [
+// Texts, and why they are no accepted queries; no words stand beside one that is.
+static TEXTS: [(&str, &str); 38] = [
     ("SELECT 1.5 FROM logs", "bad token at byte 8"),
+    ("SELECT a--b FROM t", "bad token at byte 8"),
     ("SELECT * FROM a JOIN b", "refused word at byte 16"),
+    ("SELECT * FROM a join b left", "refused word at byte 16"),
+    ("SELECT * FROM a JOIN b 1.5", "bad token at byte 24"),
+    ("SELECT", "not a query"),
+    ("", "not a query"),
     ("SELECT FROM t", "not a query"),
+    ("SELECT ) FROM t", "not a query"),
+    ("SELECT a FROM t LIMIT 'x'", "not a query"),
+    ("SELECT * FROM t 1", "not a query"),
+    ("SELECT a[4294967296] FROM t", "not a query"),
+    ("select * from anything", ""),
+    ("SELECT \"join\" FROM t", ""),
+    (
+        "SELECT 'JOIN', `2024-05-01T10:00:00Z`, 9223372036854775807 FROM t",
+        "",
+    ),
+    (
+        "SELECT a b FROM t u WHERE NOT a = 1 GROUP BY a HAVING COUNT(*) > 1 ORDER BY a DESC LIMIT 1 OFFSET 2",
+        "",
+    ),
+    (
+        "SELECT * FROM t AS row WHERE NOT a BETWEEN 1 AND 2 OR b NOT IN ('it''s', NULL) ORDER BY row.\"c\"[4294967295] DESC LIMIT 3",
+        "",
+    ),
+    (
+        "SELECT count(*) AS n, extract(hour FROM at), CASE WHEN a THEN `1970-01-01T00:00:00Z` END, CAST(a AS integer) FROM t GROUP BY a",
+        "output 2 is not grouped",
+    ),
     (
         "SELECT SUM(COUNT(*)) FROM t",
         "output 1 has a misplaced aggregate",
@@ -66,15 +93,10 @@ const TEXTS: [(&str, &str); 28] = [
     ),
     ("SELECT a FROM t ORDER BY 2", "order key 1 has no output"),
     ("SELECT * FROM t ORDER BY a, 1", "order key 2 has no output"),
-    ("SELECT a + 1 FROM t", "not built yet"),
-    ("SELECT a = 1 AS x FROM logs", "not built yet"),
-    ("SELECT * FROM t LIMIT 1", "not built yet"),
-    ("SELECT * FROM t WHERE a LIMIT 1", "not built yet"),
-    ("SELECT * FROM t WHERE a", ""),
 ];
 
 #[test]
-fn texts_are_answered_or_say_why_not(rt: HostRuntime) {
+fn texts_are_accepted_or_say_why_not(rt: HostRuntime) {
     for (text, reason) in &TEXTS {
         assert!(rt; why_refused(rt.alloc(), text).are(reason), "{text}");
     }
@@ -89,18 +111,42 @@ const SUMS: &str =
     SUM(50), SUM(51), SUM(52), SUM(53), SUM(54), SUM(55), SUM(56), SUM(57), SUM(58), SUM(59), SUM(60), SUM(61), \
     SUM(62), SUM(63), SUM(64)";
 
-// The same of long texts: at each limit and past it.
-const LONG_TEXTS: [(Parts<'static>, u32, &str); 13] = [
+// The same of long texts: at each limit and past it, and long chains, which fit the stack.
+static LONG_TEXTS: [(Parts<'static>, u32, &str); 20] = [
+    // 16 bytes and so many spaces
+    (["SELECT a FROM t ", " ", "", "", ""], 65_520, ""),
     (["SELECT a FROM t ", " ", "", "", ""], 65_521, "too long"),
+    // 6 tokens and so many others
+    (["SELECT a FROM t WHERE ", "NOT ", "b", "", ""], 2_042, ""),
     (
         ["SELECT a FROM t WHERE ", "NOT ", "b", "", ""],
         2_043,
         "too many tokens",
     ),
+    (["SELECT ", "(", "a", ")", " FROM t"], 64, ""),
     (
         ["SELECT ", "(", "a", ")", " FROM t"],
         65,
         "nested too deep at byte 71",
+    ),
+    (["SELECT a FROM t WHERE ", "- ", "b", "", ""], 2_042, ""),
+    (["SELECT a", " + a", "", "", " FROM t"], 1_022, ""),
+    (
+        ["SELECT ", "CASE WHEN a THEN ", "1", " END", " FROM t"],
+        64,
+        "",
+    ),
+    // 64 times 15 tokens on the way in and 13 on the way out
+    (
+        [
+            "SELECT ",
+            "NOT NOT NOT a OR a AND NOT - - - 1 + - (",
+            "a",
+            ") * a + a + a = a AND a OR a",
+            " FROM t",
+        ],
+        64,
+        "",
     ),
     (["SELECT 1", ", 1", "", "", " FROM t"], 255, ""),
     (
@@ -118,11 +164,7 @@ const LONG_TEXTS: [(Parts<'static>, u32, &str); 13] = [
         16,
         "too many group keys",
     ),
-    (
-        ["SELECT a FROM t ORDER BY a", ", a", "", "", ""],
-        15,
-        "not built yet",
-    ),
+    (["SELECT a FROM t ORDER BY a", ", a", "", "", ""], 15, ""),
     (
         ["SELECT a FROM t ORDER BY a", ", a", "", "", ""],
         16,
@@ -130,7 +172,7 @@ const LONG_TEXTS: [(Parts<'static>, u32, &str); 13] = [
     ),
     (["SELECT a", ".a", "", "", " FROM t"], 15, ""),
     (["SELECT a", ".a", "", "", " FROM t"], 16, "too many steps"),
-    (["SELECT ", SUMS, "", "", " FROM t"], 1, "not built yet"),
+    (["SELECT ", SUMS, "", "", " FROM t"], 1, ""),
     (
         ["SELECT ", SUMS, ", SUM(0)", "", " FROM t"],
         1,
@@ -138,7 +180,7 @@ const LONG_TEXTS: [(Parts<'static>, u32, &str); 13] = [
     ),
 ];
 
-// Whether this is why the text of these parts isn't answered.
+// Whether this is why the text of these parts is refused.
 fn is_refused(alloc: Global, parts: &Parts<'_>, times: u32, reason: &str) -> bool {
     match spell(alloc, parts, times) {
         Ok(text) => why_refused(alloc, text.as_str()).are(reason),
@@ -147,9 +189,28 @@ fn is_refused(alloc: Global, parts: &Parts<'_>, times: u32, reason: &str) -> boo
 }
 
 #[test]
-fn long_texts_are_answered_or_say_why_not(rt: HostRuntime) {
+fn long_texts_are_accepted_or_say_why_not(rt: HostRuntime) {
     for (parts, times, reason) in &LONG_TEXTS {
-        assert!(rt; is_refused(rt.alloc(), parts, *times, reason), "{times} times: {reason}");
+        assert!(rt;
+            is_refused(rt.alloc(), parts, *times, reason),
+            "{times} times: {reason}"
+        );
+    }
+}
+
+// Accepted queries, and whether queries of their form are built.
+static FORMS: [(&str, bool); 5] = [
+    ("SELECT a + 1 FROM t", false),
+    ("SELECT a = 1 AS x FROM logs", false),
+    ("SELECT * FROM t LIMIT 1", false),
+    ("SELECT * FROM t WHERE a LIMIT 1", false),
+    ("SELECT * FROM t WHERE a", true),
+];
+
+#[test]
+fn forms_are_built_or_not(rt: HostRuntime) {
+    for (text, built) in &FORMS {
+        assert!(rt; is_built(rt.alloc(), text) == *built, "{text}");
     }
 }
 
@@ -168,17 +229,19 @@ fn has_names(checked: &Checked, names: &[&str]) -> bool {
 // What an accepted query is: whether it is grouped, how many aggregates it has, and the names of its outputs.
 type Facts<'a> = (bool, usize, &'a [&'a str]);
 
-fn has_facts(checked: &Checked, facts: &Facts<'_>) -> bool {
+fn are_facts(checked: &Checked, facts: &Facts<'_>) -> bool {
     let (grouped, aggregates, names) = *facts;
-    checked.grouped() == grouped
-        && checked.aggs().len() == aggregates
-        && has_names(checked, names)
+    checked.grouped() == grouped && checked.aggs().len() == aggregates && has_names(checked, names)
+}
+
+fn has_facts(checked: Checked, facts: &Facts<'_>) -> bool {
+    are_facts(&checked, facts)
 }
 
 // Whether a query is accepted with these facts.
 fn is_accepted(alloc: Global, query: Query, facts: &Facts<'_>) -> bool {
     match check(alloc, query) {
-        Ok(checked) => has_facts(&checked, facts),
+        Ok(checked) => has_facts(checked, facts),
         Err(_) => false,
     }
 }
@@ -191,9 +254,12 @@ fn is_taken(alloc: Global, text: &str, facts: &Facts<'_>) -> bool {
     }
 }
 
-const ACCEPTED: [(&str, Facts<'static>); 4] = [
+static ACCEPTED: [(&str, Facts<'static>); 4] = [
     ("SELECT SUM(a), SUM(a) FROM logs", (true, 1, &["_1", "_2"])),
-    ("SELECT 1, 1 FROM logs HAVING TRUE", (true, 0, &["_1", "_2"])),
+    (
+        "SELECT 1, 1 FROM logs HAVING TRUE",
+        (true, 0, &["_1", "_2"]),
+    ),
     (
         "SELECT a, b.c, a[0], a AS x FROM t",
         (false, 0, &["a", "c", "_3", "x"]),

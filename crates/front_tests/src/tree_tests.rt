@@ -4,13 +4,13 @@ use std::alloc::Global;
 // Whether both texts are queries of one tree, which is printed in one way.
 fn same_trees(alloc: Global, left: &str, right: &str) -> bool {
     match printed(alloc, left) {
-        Some(made) => prints(alloc, right, made.as_slice()),
+        Some(made) => prints(alloc, right, made.as_str()),
         None => false,
     }
 }
 
 // Each form beside a text that says its tree by parentheses, or in another way.
-const SAME: [(&str, &str); 30] = [
+static SAME: [(&str, &str); 30] = [
     ("SELECT a - b - c FROM t", "SELECT (a - b) - c FROM t"),
     ("SELECT a + b * c FROM t", "SELECT a + (b * c) FROM t"),
     ("SELECT a / b % c FROM t", "SELECT (a / b) % c FROM t"),
@@ -95,7 +95,7 @@ const SAME: [(&str, &str); 30] = [
 ];
 
 // Texts that have one tree only if a rule of the grammar is broken.
-const OTHER: [(&str, &str); 10] = [
+static OTHER: [(&str, &str); 10] = [
     ("SELECT a - b - c FROM t", "SELECT a - (b - c) FROM t"),
     ("SELECT a + b * c FROM t", "SELECT (a + b) * c FROM t"),
     ("SELECT NOT a = 1 FROM t", "SELECT (NOT a) = 1 FROM t"),
