@@ -1,5 +1,5 @@
 use crate::spelling::spell;
-use crate::words::{Words, plain};
+use crate::words::{Words, numbered, plain};
 use eval_row::eval_row;
 use query_tree::{Operand, Outputs, Query};
 use snel_values::{Items, OutOfMemory, Pairs, Text, Value};
@@ -17,21 +17,39 @@ fn first_output(query: &Query) -> Option<&Operand> {
     }
 }
 
+// Adds a pair, where its name stands above the last.
+fn put_above(pairs: &mut Pairs, name: Text, value: Value) -> Result<(), OutOfMemory> {
+    if pairs.is_above_last(name.as_str()) {
+        pairs.push(name, value)
+    } else {
+        drop(value);
+        Ok(())
+    }
+}
+
+// The same of a name's text.
+fn put(alloc: Global, pairs: &mut Pairs, name: &str, value: Value) -> Result<(), OutOfMemory> {
+    match Text::of(alloc, name) {
+        Ok(name) => put_above(pairs, name, value),
+        Err(fault) => {
+            drop(value);
+            Err(fault)
+        }
+    }
+}
+
 // `{"a":1,"b":"x"}`
 fn with_both(alloc: Global) -> Result<Value, OutOfMemory> {
     let mut pairs = Pairs::new(alloc);
-    pairs.push(Text::of(alloc, "a")?, Value::Int(1))?;
-    let name = Text::of(alloc, "b")?;
-    if pairs.is_above_last(name.as_str()) {
-        pairs.push(name, Value::Text(Text::of(alloc, "x")?))?;
-    }
+    put(alloc, &mut pairs, "a", Value::Int(1))?;
+    put(alloc, &mut pairs, "b", Value::Text(Text::of(alloc, "x")?))?;
     Ok(Value::Struct(pairs))
 }
 
 // A struct of one pair.
 fn with_one(alloc: Global, name: &str, value: Value) -> Result<Value, OutOfMemory> {
     let mut pairs = Pairs::new(alloc);
-    pairs.push(Text::of(alloc, name)?, value)?;
+    put(alloc, &mut pairs, name, value)?;
     Ok(Value::Struct(pairs))
 }
 
@@ -60,31 +78,27 @@ fn row(alloc: Global, at: usize) -> Result<Value, OutOfMemory> {
 }
 
 // The value of the first output on the row at a place.
-fn first_value(alloc: Global, query: &Query, at: usize) -> Result<Value, OutOfMemory> {
-    let row = row(alloc, at)?;
-    match first_output(query) {
-        Some(expr) => eval_row(alloc, expr.get(), &row),
-        None => Ok(Value::Missing),
+fn first_value(alloc: Global, query: &Query, at: usize) -> Option<Value> {
+    let expr = first_output(query)?;
+    match row(alloc, at) {
+        Ok(row) => {
+            let value = eval_row(alloc, expr.get(), &row).ok();
+            drop(row);
+            value
+        }
+        Err(_) => None,
     }
-}
-
-fn value_of_query(alloc: Global, query: Query, at: usize) -> Option<Value> {
-    first_value(alloc, &query, at).ok()
 }
 
 // The same of a text's query.
 fn value_of(alloc: Global, text: &str, at: usize) -> Option<Value> {
     match read(alloc, text) {
-        Ok(query) => value_of_query(alloc, query, at),
+        Ok(query) => {
+            let value = first_value(alloc, &query, at);
+            drop(query);
+            value
+        }
         Err(_) => None,
-    }
-}
-
-fn numbered(before: &'static str, number: i128) -> Words {
-    Words {
-        before,
-        number: Some(number),
-        behind: "",
     }
 }
 
@@ -95,8 +109,8 @@ fn said(value: &Value) -> Words {
         Value::Null => plain("NULL"),
         Value::Bool(true) => plain("TRUE"),
         Value::Bool(false) => plain("FALSE"),
-        Value::Int(number) => numbered("", *number),
-        Value::Time(micros) => numbered("time ", i128::from(*micros)),
+        Value::Int(number) => numbered("", *number, ""),
+        Value::Time(micros) => numbered("time ", i128::from(*micros), ""),
         Value::Text(_) => plain("a text"),
         Value::List(_) => plain("a list"),
         Value::Struct(_) => plain("a struct"),
@@ -106,7 +120,11 @@ fn said(value: &Value) -> Words {
 // Whether this is the value of the first output of a text's query.
 fn is_value(alloc: Global, text: &str, at: usize, wanted: &str) -> bool {
     match value_of(alloc, text, at) {
-        Some(value) => said(&value).are(wanted),
+        Some(value) => {
+            let same = said(&value).are(wanted);
+            drop(value);
+            same
+        }
         None => false,
     }
 }

@@ -1,15 +1,13 @@
-ghost use Rattle.std.specs.Prelude.{◌≡◌, ◌<◌, ℕ, List, IfOk, All};
+ghost use Rattle.std.specs.Prelude.{◌≡◌, ◌<◌, ℕ, List, IfOk, OnOk, All};
 ghost use Rattle.program_meaning.specs.Programs.{mask_count, value_count};
 ghost use Rattle.program_meaning.specs.Jobs.{IsAggregate, AreEnds};
 ghost use Rattle.tree_meaning.specs.WellFormed.{IsWellFormed};
-ghost use Rattle.query_tree.specs.Queries.{query_view};
 ghost use Rattle.lane_ssa.specs.Views.{ends_view};
 
 use crate::spelling::spell;
 use lane_ssa::{Builder, EndAgg, EndAggs, EndOut, EndOuts, Ends, Instr, Registers};
 use plan_lower::{is_lowered, listing, lower};
 use query_check::{Checked, check};
-use query_tree::Query;
 use snel_values::{Bytes, OutOfMemory, Text, Value};
 use sql_reader::read;
 use std::alloc::Global;
@@ -23,31 +21,26 @@ fn job_listing(alloc: Global, checked: &Checked) -> Option<Bytes>
         return None;
     }
     match lower(alloc, checked) {
-        Ok(job) => listing(alloc, &job).ok(),
+        Ok(job) => {
+            let made = listing(alloc, &job).ok();
+            drop(job);
+            made
+        }
         Err(_) => None,
     }
 }
 
-fn accepted_listing(alloc: Global, checked: Checked) -> Option<Bytes>
-    requires { IsWellFormed checked }
-{
-    job_listing(alloc, &checked)
-}
-
-// The same of a query, if it is accepted.
-fn query_listing(alloc: Global, query: Query) -> Option<Bytes>
-    requires { IsWellFormed (query_view query) }
-{
-    match check(alloc, query) {
-        Ok(checked) => accepted_listing(alloc, checked),
-        Err(_) => None,
-    }
-}
-
-// The same of a text.
+// The same of a text's query, if it is accepted.
 fn text_listing(alloc: Global, text: &str) -> Option<Bytes> {
     match read(alloc, text) {
-        Ok(query) => query_listing(alloc, query),
+        Ok(query) => match check(alloc, query) {
+            Ok(checked) => {
+                let made = job_listing(alloc, &checked);
+                drop(checked);
+                made
+            }
+            Err(_) => None,
+        },
         Err(_) => None,
     }
 }
@@ -188,18 +181,19 @@ fn a_deep_expression_has_its_listing(rt: HostRuntime) {
     assert!(rt; is_deep_listed(rt.alloc(), end));
 }
 
-// The masks 0 and 1, and the values 0 and 1.
-fn program(alloc: Global) -> Result<Builder, OutOfMemory>
-    ensures masks { IfOk result (λ b. mask_count b ≡ 2) }
-    ensures values { IfOk result (λ b. value_count b ≡ 2) }
+// Adds the masks 0 and 1, and the values 0 and 1.
+fn put_program(builder: &mut Builder) -> Result<(), OutOfMemory>
+    requires masks { mask_count builder.old ≡ 0 }
+    requires values { value_count builder.old ≡ 0 }
+    ensures masks { OnOk result (mask_count builder.new ≡ 2) }
+    ensures values { OnOk result (value_count builder.new ≡ 2) }
 {
-    let mut builder = Builder::new(alloc);
     let mask = builder.put(Instr::All)?;
     builder.put(Instr::Root { mask })?;
     builder.put(Instr::All)?;
     let value = Value::Int(-5);
     builder.put(Instr::Const { mask, value })?;
-    Ok(builder)
+    Ok(())
 }
 
 fn outs(alloc: Global) -> Result<EndOuts, OutOfMemory>
@@ -251,10 +245,22 @@ fn all_ends(alloc: Global) -> Result<Ends, OutOfMemory>
 }
 
 // The listing of a job with each end.
-fn all_listed(alloc: Global) -> Result<Bytes, OutOfMemory> {
-    let program = program(alloc)?;
-    let ends = all_ends(alloc)?;
-    listing(alloc, &program.finish(ends))
+fn all_listed(alloc: Global, program: Builder) -> Option<Bytes>
+    requires masks { mask_count program ≡ 2 }
+    requires values { value_count program ≡ 2 }
+{
+    match all_ends(alloc) {
+        Ok(ends) => {
+            let job = program.finish(ends);
+            let made = listing(alloc, &job).ok();
+            drop(job);
+            made
+        }
+        Err(_) => {
+            drop(program);
+            None
+        }
+    }
 }
 
 const ALL_ENDS: &str = "m0 = all
@@ -270,9 +276,16 @@ agg boolor r0
 ";
 
 fn lists_all_ends(alloc: Global) -> bool {
-    match all_listed(alloc) {
-        Ok(made) => made.as_slice() == ALL_ENDS.as_bytes(),
-        Err(_) => false,
+    let mut program = Builder::new(alloc);
+    match put_program(&mut program) {
+        Ok(()) => match all_listed(alloc, program) {
+            Some(made) => made.as_slice() == ALL_ENDS.as_bytes(),
+            None => false,
+        },
+        Err(_) => {
+            drop(program);
+            false
+        }
     }
 }
 

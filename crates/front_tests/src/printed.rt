@@ -1,22 +1,16 @@
-//! The printed query of a text.
-ghost use Rattle.tree_meaning.specs.WellFormed.{IsWellFormed};
-ghost use Rattle.query_tree.specs.Queries.{query_view};
-
-use query_tree::Query;
+//! The printed query of a text. A query is dropped by a call: where it falls by itself, the proof spells out each of its parts.
 use sql_print::{QueryText, print};
 use sql_reader::read;
 use std::alloc::Global;
 
-fn print_query(alloc: Global, query: Query) -> Option<QueryText>
-    requires { IsWellFormed (query_view query) }
-{
-    print(alloc, &query).ok()
-}
-
 /// The printed query of a text, if it is one.
 pub(crate) fn printed(alloc: Global, text: &str) -> Option<QueryText> {
     match read(alloc, text) {
-        Ok(query) => print_query(alloc, query),
+        Ok(query) => {
+            let made = print(alloc, &query).ok();
+            drop(query);
+            made
+        }
         Err(_) => None,
     }
 }

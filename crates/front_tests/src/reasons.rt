@@ -1,26 +1,17 @@
 //! The reason for which a text is refused, in the words of README.md. No words say that nothing is refused.
-use crate::words::{Words, plain};
+use crate::words::{Words, numbered, plain};
 use plan_lower::is_lowered;
 use query_check::{CheckFault, Limit, Place, check};
-use query_tree::Query;
 use sql_reader::{SqlFault, read};
 use std::alloc::Global;
-
-fn numbered(before: &'static str, number: u32, behind: &'static str) -> Words {
-    Words {
-        before,
-        number: Some(i128::from(number)),
-        behind,
-    }
-}
 
 fn of_text(fault: SqlFault) -> Words {
     match fault {
         SqlFault::TooLong => plain("too long"),
-        SqlFault::BadToken(place) => numbered("bad token at byte ", place, ""),
+        SqlFault::BadToken(place) => numbered("bad token at byte ", i128::from(place), ""),
         SqlFault::TooMany => plain("too many tokens"),
-        SqlFault::Refused(place) => numbered("refused word at byte ", place, ""),
-        SqlFault::TooDeep(place) => numbered("nested too deep at byte ", place, ""),
+        SqlFault::Refused(place) => numbered("refused word at byte ", i128::from(place), ""),
+        SqlFault::TooDeep(place) => numbered("nested too deep at byte ", i128::from(place), ""),
         SqlFault::NotAQuery => plain("not a query"),
         SqlFault::OutOfMemory => plain("out of memory"),
     }
@@ -38,19 +29,19 @@ fn of_limit(limit: Limit) -> Words {
 
 fn of_place(place: Place, behind: &'static str) -> Words {
     match place {
-        Place::Output(number) => numbered("output ", number, behind),
+        Place::Output(number) => numbered("output ", i128::from(number), behind),
         Place::Filter => Words {
             before: "WHERE",
             number: None,
             behind,
         },
-        Place::Key(number) => numbered("group key ", number, behind),
+        Place::Key(number) => numbered("group key ", i128::from(number), behind),
         Place::Having => Words {
             before: "HAVING",
             number: None,
             behind,
         },
-        Place::Order(number) => numbered("order key ", number, behind),
+        Place::Order(number) => numbered("order key ", i128::from(number), behind),
     }
 }
 
@@ -60,36 +51,31 @@ fn of_query(fault: CheckFault) -> Words {
         CheckFault::Nested(place) => of_place(place, " has a misplaced aggregate"),
         CheckFault::NotGrouped(place) => of_place(place, " is not grouped"),
         CheckFault::OverGroups(place) => of_place(place, " is not allowed over groups"),
-        CheckFault::SameName(output) => numbered("output ", output, " has an earlier name"),
-        CheckFault::NoSuchOrder(key) => numbered("order key ", key, " has no output"),
+        CheckFault::SameName(output) => numbered("output ", i128::from(output), " has an earlier name"),
+        CheckFault::NoSuchOrder(key) => numbered("order key ", i128::from(key), " has no output"),
         CheckFault::OutOfMemory => plain("out of memory"),
-    }
-}
-
-/// Why a query isn't accepted.
-fn why_unaccepted(alloc: Global, query: Query) -> Words {
-    match check(alloc, query).err() {
-        Some(fault) => of_query(fault),
-        None => plain(""),
     }
 }
 
 /// Why a text is no accepted query.
 pub(crate) fn why_refused(alloc: Global, text: &str) -> Words {
     match read(alloc, text) {
-        Ok(query) => why_unaccepted(alloc, query),
+        Ok(query) => match check(alloc, query).err() {
+            Some(fault) => of_query(fault),
+            None => plain(""),
+        },
         Err(fault) => of_text(fault),
     }
-}
-
-fn is_lowered_query(query: Query) -> bool {
-    is_lowered(&query)
 }
 
 /// Whether queries of the form of a text's query are built.
 pub(crate) fn is_built(alloc: Global, text: &str) -> bool {
     match read(alloc, text) {
-        Ok(query) => is_lowered_query(query),
+        Ok(query) => {
+            let built = is_lowered(&query);
+            drop(query);
+            built
+        }
         Err(_) => false,
     }
 }

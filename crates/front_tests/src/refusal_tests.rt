@@ -1,7 +1,6 @@
 use crate::reasons::{is_built, why_refused};
 use crate::spelling::{Parts, spell};
 use query_check::{Checked, check};
-use query_tree::Query;
 use sql_reader::read;
 use std::alloc::Global;
 
@@ -234,22 +233,17 @@ fn are_facts(checked: &Checked, facts: &Facts<'_>) -> bool {
     checked.grouped() == grouped && checked.aggs().len() == aggregates && has_names(checked, names)
 }
 
-fn has_facts(checked: Checked, facts: &Facts<'_>) -> bool {
-    are_facts(&checked, facts)
-}
-
-// Whether a query is accepted with these facts.
-fn is_accepted(alloc: Global, query: Query, facts: &Facts<'_>) -> bool {
-    match check(alloc, query) {
-        Ok(checked) => has_facts(checked, facts),
-        Err(_) => false,
-    }
-}
-
-// The same of a text.
-fn is_taken(alloc: Global, text: &str, facts: &Facts<'_>) -> bool {
+// Whether a text is an accepted query with these facts.
+fn is_accepted(alloc: Global, text: &str, facts: &Facts<'_>) -> bool {
     match read(alloc, text) {
-        Ok(query) => is_accepted(alloc, query, facts),
+        Ok(query) => match check(alloc, query) {
+            Ok(checked) => {
+                let same = are_facts(&checked, facts);
+                drop(checked);
+                same
+            }
+            Err(_) => false,
+        },
         Err(_) => false,
     }
 }
@@ -270,6 +264,6 @@ static ACCEPTED: [(&str, Facts<'static>); 4] = [
 #[test]
 fn accepted_queries_are_grouped_and_named(rt: HostRuntime) {
     for (text, facts) in &ACCEPTED {
-        assert!(rt; is_taken(rt.alloc(), text, facts), "{text}");
+        assert!(rt; is_accepted(rt.alloc(), text, facts), "{text}");
     }
 }

@@ -17,6 +17,15 @@ pub(crate) fn plain(words: &'static str) -> Words {
     }
 }
 
+/// Words round a number.
+pub(crate) fn numbered(before: &'static str, number: i128, behind: &'static str) -> Words {
+    Words {
+        before,
+        number: Some(number),
+        behind,
+    }
+}
+
 impl Words {
     /// Whether this is the text of the words.
     pub(crate) fn are(self, text: &str) -> bool {
