@@ -1,12 +1,14 @@
 -- The rows of a chunk that pass, lane by lane.
-use Rattle.std.proofs.Common.{◌≡◌, ℕ, zero, suc, ◌+◌, ◌<◌, ◌≤◌, Bool, true, false, cond, List, [], ◌∷◌, ◌++◌, length, drop, Option, None, Some, refl, sym, ap, subst, ◌∙◌, arith, append_assoc, append-nil}
+use Rattle.std.proofs.Common.{◌≡◌, ℕ, zero, suc, ◌+◌, ◌<◌, ◌≤◌, Bool, true, false, not, cond, List, [], ◌∷◌, ◌++◌, length, drop, Option, None, Some, refl, sym, ap, subst, ◌∙◌, arith, append_assoc, append-nil}
 use Rattle.std.specs.Prelude.{◌&&◌, slice_get, slice_index_or, count_by, fold}
 use Rattle.std.specs.List.{filter, range_with_len}
 use Rattle.std.proofs.lemmas.List.Sums.{sum_by-cons}
 use Rattle.value_meaning.specs.Val.{Val}
 use Rattle.eval_meaning.specs.Logic.{is_true}
 use Rattle.answer_meaning.specs.Lines.{line_text, print}
-use Rattle.program_meaning.specs.Instructions.{Instr, all, holding, make}
+use Rattle.eval_meaning.specs.Pair.{Pair}
+use Rattle.program_meaning.specs.Instructions.{Instr}
+use Rattle.program_meaning.specs.Instructions as instr
 use Rattle.program_meaning.specs.Registers.{lane_of, State, new_mask, with_made, step, empty, after, mask_at, value_at}
 use Rattle.program_meaning.specs.Jobs.{Job}
 use Rattle.block_lines.specs.RowLines.{keeps, job_output, job_outputs}
@@ -24,18 +26,19 @@ one_false (b ∷ bs) h (suc m) = one_false bs (λ n. h (suc n)) m
 with_mask : (s : State) (b : Bool) → b ≡ false → HoldsNothing s → HoldsNothing (with_made s (new_mask b))
 with_mask s b e h = record { nowhere = λ m. subst (λ (c : Bool). slice_index_or (s.masks ++ c ∷ []) m false ≡ false) (sym e) (one_false s.masks h.nowhere m) }
 
-dead_step : (row : Val) (s : State) (x : Instr) → HoldsNothing s → HoldsNothing (step (record { live = false; row = row }) s x)
-dead_step row s all h = with_mask s false refl h
-dead_step row s (holding m a) h = with_mask s (mask_at s m && is_true (value_at s a)) (ap (λ (b : Bool). b && is_true (value_at s a)) (h.nowhere m)) h
-dead_step row s (make m from) h = record { nowhere = h.nowhere }
+dead_step : (p : Pair) (s : State) (x : Instr) → HoldsNothing s → HoldsNothing (step (record { live = false; pair = p }) s x)
+dead_step p s instr.all h = with_mask s false refl h
+dead_step p s (instr.holding m a) h = with_mask s (mask_at s m && is_true (value_at s a)) (ap (λ (b : Bool). b && is_true (value_at s a)) (h.nowhere m)) h
+dead_step p s (instr.minus m k) h = with_mask s (mask_at s m && not (mask_at s k)) (ap (λ (b : Bool). b && not (mask_at s k)) (h.nowhere m)) h
+dead_step p s x h = record { nowhere = h.nowhere }
 
-dead_fold : (row : Val) (s : State) (xs : List Instr) → HoldsNothing s → HoldsNothing (fold (step (record { live = false; row = row })) s xs)
-dead_fold row s [] h = h
-dead_fold row s (x ∷ xs) h = dead_fold row (step (record { live = false; row = row }) s x) xs (dead_step row s x h)
+dead_fold : (p : Pair) (s : State) (xs : List Instr) → HoldsNothing s → HoldsNothing (fold (step (record { live = false; pair = p })) s xs)
+dead_fold p s [] h = h
+dead_fold p s (x ∷ xs) h = dead_fold p (step (record { live = false; pair = p }) s x) xs (dead_step p s x h)
 
 -- a lane without a row passes nothing
 pub dead_lane : (xs : List Instr) (m : ℕ) → mask_at (after (lane_of None) xs) m ≡ false
-dead_lane xs m = (dead_fold (lane_of None).row empty xs (record { nowhere = λ m. refl })).nowhere m
+dead_lane xs m = (dead_fold (lane_of None).pair empty xs (record { nowhere = λ m. refl })).nowhere m
 
 -- whether a job keeps the row at a place, where one stands
 abbrev pub keeps_at : Job → Option Val → Bool

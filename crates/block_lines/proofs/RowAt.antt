@@ -1,5 +1,5 @@
 -- The line of the row at a place of a chunk.
-use Rattle.std.proofs.Common.{◌≡◌, ℕ, zero, suc, ◌+◌, ◌<◌, ◌≤◌, true, false, List, [], ◌∷◌, length, take, drop, Option, None, Some, refl, sym, ap, ◌∙◌, arith}
+use Rattle.std.proofs.Common.{◌≡◌, ℕ, ◌+◌, ◌<◌, ◌≤◌, true, false, List, length, drop, Option, Some, refl, sym, ap, ◌∙◌, arith}
 use Rattle.std.specs.Prelude.{slice_get}
 use Rattle.std.proofs.lemmas.List.{length-take, length-drop}
 use Rattle.value_meaning.specs.Val.{Val}
@@ -7,30 +7,9 @@ use Rattle.answer_meaning.specs.Made.{pairs_of}
 use Rattle.answer_meaning.specs.Lines.{line_text}
 use Rattle.program_meaning.specs.Jobs.{Job}
 use Rattle.program_meaning.specs.Registers.{State, lane_of, after}
+use Rattle.program_meaning.proofs.Chunks.{place_in_chunk}
 use Rattle.lane_ssa.specs.ChunksOf.{rows_from}
 use Rattle.block_lines.specs.RowLines.{registers_on, shown_pairs, job_output}
-
-get_take : (rows : List Val) (n i : ℕ) → i < n → slice_get (take n rows) i ≡ slice_get rows i
-get_take [] zero i h = refl
-get_take [] (suc n) i h = refl
-get_take (r ∷ rows) zero i h = absurd (omega arith)
-get_take (r ∷ rows) (suc n) zero h = refl
-get_take (r ∷ rows) (suc n) (suc i) h = get_take rows n i (omega arith)
-
-get_none : (i : ℕ) → slice_get {X = Val} [] i ≡ None
-get_none zero = refl
-get_none (suc i) = refl
-
-get_drop : (rows : List Val) (n i : ℕ) → slice_get (drop n rows) i ≡ slice_get rows (n + i)
-get_drop rows zero i = let e : i ≡ 0 + i = omega arith in ap (slice_get rows) e
-get_drop [] (suc n) i = get_none i ∙ sym (get_none (suc n + i))
-get_drop (r ∷ rows) (suc n) i =
-    let e : suc (n + i) ≡ suc n + i = omega arith in
-    get_drop rows n i ∙ ap (slice_get (r ∷ rows)) e
-
--- the row in a lane of a chunk is that of the block at its place
-pub row_in : (rows : List Val) (first i : ℕ) → i < 16 → slice_get (rows_from first rows) i ≡ slice_get rows (first + i)
-row_in rows first i h = get_take (drop first rows) 16 i h ∙ get_drop rows first i
 
 same_row : (v w : Val) (o : Option Val) → o ≡ Some v → o ≡ Some w → v ≡ w
 same_row v w o e f = cc
@@ -38,7 +17,7 @@ same_row v w o e f = cc
 pub star_line : (job : Job) (rows : List Val) (first i : ℕ) → i < 16 → (row found : Val) → slice_get (rows_from first rows) i ≡ Some row → slice_get rows (first + i) ≡ Some found
     → job.ends.star ≡ true → line_text (pairs_of found) ≡ line_text (job_output job row)
 star_line job rows first i h row found e f star =
-    let same : found ≡ row = same_row found row (slice_get rows (first + i)) f (sym (row_in rows first i h) ∙ e) in
+    let same : found ≡ row = same_row found row (slice_get rows (first + i)) f (sym (place_in_chunk rows first i h) ∙ e) in
     rw (star, same) refl
 
 pub outputs_line : (job : Job) (row : Val) (s : State) (o : Option Val) → o ≡ Some row → s ≡ after (lane_of o) job.program → job.ends.star ≡ false

@@ -1,3 +1,1 @@
 pub mod Walking
-pub mod Signs
-pub mod Dates

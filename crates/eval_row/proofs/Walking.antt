@@ -1,12 +1,12 @@
 -- Steps of the loops over steps, expressions and arms.
-use Rattle.std.proofs.Common.{◌≡◌, ℕ, zero, suc, ◌+◌, ◌<◌, Bool, true, false, cond, List, [], ◌∷◌, ◌++◌, map, drop, Option, Some, None, refl, sym, ◌∙◌, ap, add-one, append_assoc, arith}
+use Rattle.std.proofs.Common.{◌≡◌, ℕ, zero, suc, ◌+◌, ◌<◌, Bool, true, false, cond, List, [], ◌∷◌, ◌++◌, map, drop, Some, refl, sym, ◌∙◌, ap, add-one, append_assoc, arith}
 use Rattle.std.specs.Prelude.{slice_get, unwrap_or}
-use Rattle.std.specs.Option.{option_map}
 use Rattle.value_meaning.specs.Val.{Val, missing, list, struct, vals, fields}
 use Rattle.value_meaning.specs.Pairs.{value_of}
 use Rattle.value_meaning.proofs.Chains.{items-vals, pairs-fields}
 use Rattle.tree_meaning.specs.Tree.{Step, name, at, Ex, size, exs, exs_size, arms, arms_size}
 use Rattle.eval_meaning.specs.Logic.{choice_of, is_true}
+use Rattle.eval_meaning.specs.Pair.{Pair, source_of}
 use Rattle.eval_meaning.specs.Paths.{step_of, path_of}
 use Rattle.eval_meaning.specs.Evaluation.{eval, evals, choices}
 
@@ -32,15 +32,20 @@ path_of_missing [] = refl
 path_of_missing (name n ∷ ss) = path_of_missing ss
 path_of_missing (at i ∷ ss) = path_of_missing ss
 
+-- each source but the first is the item
+pub other_source : (n : ℕ) (pair : Pair) → (n ≡ 0 → ⊥) → source_of n pair ≡ pair.item
+other_source zero pair h = absurd (h refl)
+other_source (suc n) pair h = refl
+
 module _ {S : Type 0} (f : S → Step) where
   -- a path goes on with the step at a place
   pub path_goes_on : (ss : List S) (i : ℕ) (s : S) (v : Val) → slice_get ss i ≡ Some s → path_of (map f (drop i ss)) v ≡ path_of (map f (drop (i + 1) ss)) (step_of (f s) v)
   path_goes_on ss i s v h = ap (λ l. path_of (map f l) v) (drop_at ss i s h)
 
 -- the values of expressions up to a place
-pub evals_go_on : (es : List Ex) (i : ℕ) (e : Ex) (row : Val) (made : List Val) → slice_get es i ≡ Some e
-    → evals (exs es) row ≡ made ++ evals (exs (drop i es)) row → evals (exs es) row ≡ (made ++ eval e row ∷ []) ++ evals (exs (drop (i + 1) es)) row
-evals_go_on es i e row made h all = all ∙ ap (λ l. made ++ evals (exs l) row) (drop_at es i e h) ∙ simp append_assoc
+pub evals_go_on : (es : List Ex) (i : ℕ) (e : Ex) (pair : Pair) (made : List Val) → slice_get es i ≡ Some e
+    → evals (exs es) pair ≡ made ++ evals (exs (drop i es)) pair → evals (exs es) pair ≡ (made ++ eval e pair ∷ []) ++ evals (exs (drop (i + 1) es)) pair
+evals_go_on es i e pair made h all = all ∙ ap (λ l. made ++ evals (exs l) pair) (drop_at es i e h) ∙ simp append_assoc
 
 pub ex_is_smaller : (es : List Ex) (i : ℕ) (e : Ex) → slice_get es i ≡ Some e → size e < exs_size (exs es)
 ex_is_smaller [] i e h = cc
@@ -48,9 +53,9 @@ ex_is_smaller (x ∷ xs) zero e h = (let w : x ≡ e = cc in rw w (omega arith))
 ex_is_smaller (x ∷ xs) (suc i) e h = omega (arith, ex_is_smaller xs i e h)
 
 -- the arms from a place on begin with the one there
-pub arms_go_on : (xs : List (Ex × Ex)) (i : ℕ) (x : Ex × Ex) (row other : Val) → slice_get xs i ≡ Some x
-    → choices (arms (drop i xs)) row other ≡ choice_of (eval x.0 row) (eval x.1 row) (choices (arms (drop (i + 1) xs)) row other)
-arms_go_on xs i x row other h = ap (λ l. choices (arms l) row other) (drop_at xs i x h)
+pub arms_go_on : (xs : List (Ex × Ex)) (i : ℕ) (x : Ex × Ex) (pair : Pair) (other : Val) → slice_get xs i ≡ Some x
+    → choices (arms (drop i xs)) pair other ≡ choice_of (eval x.0 pair) (eval x.1 pair) (choices (arms (drop (i + 1) xs)) pair other)
+arms_go_on xs i x pair other h = ap (λ l. choices (arms l) pair other) (drop_at xs i x h)
 
 pub test_is_smaller : (xs : List (Ex × Ex)) (i : ℕ) (x : Ex × Ex) → slice_get xs i ≡ Some x → size x.0 + size x.1 < arms_size (arms xs)
 test_is_smaller [] i x h = cc
@@ -66,12 +71,12 @@ passed_by true v later h = cc
 passed_by false v later h = refl
 
 -- an arm whose test is true, behind arms whose tests aren't
-pub arm_holds : (xs : List (Ex × Ex)) (i : ℕ) (x : Ex × Ex) (row other test : Val) → slice_get xs i ≡ Some x → test ≡ eval x.0 row → is_true test ≡ true
-    → choices (arms (drop i xs)) row other ≡ choices (arms xs) row other → choices (arms xs) row other ≡ eval x.1 row
-arm_holds xs i x row other test h e t all =
-    sym all ∙ arms_go_on xs i x row other h ∙ chosen (is_true (eval x.0 row)) (eval x.1 row) (choices (arms (drop (i + 1) xs)) row other) (rw (← e) t)
+pub arm_holds : (xs : List (Ex × Ex)) (i : ℕ) (x : Ex × Ex) (pair : Pair) (other test : Val) → slice_get xs i ≡ Some x → test ≡ eval x.0 pair → is_true test ≡ true
+    → choices (arms (drop i xs)) pair other ≡ choices (arms xs) pair other → choices (arms xs) pair other ≡ eval x.1 pair
+arm_holds xs i x pair other test h e t all =
+    sym all ∙ arms_go_on xs i x pair other h ∙ chosen (is_true (eval x.0 pair)) (eval x.1 pair) (choices (arms (drop (i + 1) xs)) pair other) (rw (← e) t)
 
-pub arm_fails : (xs : List (Ex × Ex)) (i : ℕ) (x : Ex × Ex) (row other test : Val) → slice_get xs i ≡ Some x → test ≡ eval x.0 row → is_true test ≡ false
-    → choices (arms (drop i xs)) row other ≡ choices (arms xs) row other → choices (arms (drop (i + 1) xs)) row other ≡ choices (arms xs) row other
-arm_fails xs i x row other test h e t all =
-    sym (passed_by (is_true (eval x.0 row)) (eval x.1 row) (choices (arms (drop (i + 1) xs)) row other) (rw (← e) t)) ∙ sym (arms_go_on xs i x row other h) ∙ all
+pub arm_fails : (xs : List (Ex × Ex)) (i : ℕ) (x : Ex × Ex) (pair : Pair) (other test : Val) → slice_get xs i ≡ Some x → test ≡ eval x.0 pair → is_true test ≡ false
+    → choices (arms (drop i xs)) pair other ≡ choices (arms xs) pair other → choices (arms (drop (i + 1) xs)) pair other ≡ choices (arms xs) pair other
+arm_fails xs i x pair other test h e t all =
+    sym (passed_by (is_true (eval x.0 pair)) (eval x.1 pair) (choices (arms (drop (i + 1) xs)) pair other) (rw (← e) t)) ∙ sym (arms_go_on xs i x pair other h) ∙ all

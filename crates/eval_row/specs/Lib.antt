@@ -1,2 +1,1 @@
-pub mod Logic
-pub mod Magnitude
+pub mod Sources

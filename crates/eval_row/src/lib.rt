@@ -1,14 +1,8 @@
-//! The value of an expression on a row, one row at a time: plain and slow, to compare other ways with.
+//! The value of an expression on a row and an item, one pair at a time, by [`eval_row`], as in
+//! `eval_row(alloc, &expr, &row, &Value::Missing)` for a query of one source: plain and slow, to compare other ways with.
 #![tactic(auto)]
 
-mod calendar;
-mod casts;
-mod comparing;
 mod evaluating;
-mod logic;
-mod matching;
-mod numbers;
 mod paths;
-mod times;
 
 pub use evaluating::eval_row;

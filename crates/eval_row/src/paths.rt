@@ -8,22 +8,11 @@ ghost use Rattle.eval_meaning.specs.Paths as spec;
 use snel_values::{OutOfMemory, Step, Steps, Value};
 use std::alloc::Global;
 
-/// The value to which one step leads, if there is one.
-fn step_to<'a>(value: &'a Value, step: &Step) -> Option<&'a Value>
-    ensures { unwrap_or (option_map (λ v. view v.now) result) missing ≡ spec.step_of (step_view step.now) (view value.now) }
+/// The value to which the steps lead from a value.
+pub(crate) fn value_at(alloc: Global, steps: &Steps, from: &Value) -> Result<Value, OutOfMemory>
+    ensures { IfOk result (λ v. view v ≡ spec.path_of (map step_view steps.now) (view from.now)) }
 {
-    match (step, value) {
-        (Step::Name(name), Value::Struct(pairs)) => pairs.get(name.as_str()),
-        (Step::At(at), Value::List(items)) => items.get(*at as usize),
-        _ => None,
-    }
-}
-
-/// The value to which the steps lead from a row.
-pub(crate) fn value_at(alloc: Global, steps: &Steps, row: &Value) -> Result<Value, OutOfMemory>
-    ensures { IfOk result (λ v. view v ≡ spec.path_of (map step_view steps.now) (view row.now)) }
-{
-    let mut at = row;
+    let mut at = from;
     for i in 0..steps.len() {
         let Some(step) = steps.get(i) else {
             unreachable!();
@@ -34,4 +23,16 @@ pub(crate) fn value_at(alloc: Global, steps: &Steps, row: &Value) -> Result<Valu
         }
     }
     at.copy(alloc)
+}
+
+/// The value to which one step leads, if there is one.
+fn step_to<'a>(value: &'a Value, step: &Step) -> Option<&'a Value>
+    ensures { unwrap_or (option_map (λ v. view v.now) result) missing ≡
+        spec.step_of (step_view step.now) (view value.now) }
+{
+    match (step, value) {
+        (Step::Name(name), Value::Struct(pairs)) => pairs.get(name.as_str()),
+        (Step::At(at), Value::List(items)) => items.get(*at as usize),
+        _ => None,
+    }
 }

@@ -7,7 +7,8 @@ use Rattle.lane_base.specs.declared.mask.LaneMask.{LaneMask}
 use Rattle.lane_base.specs.declared.lanes.Lanes.{Lanes}
 use Rattle.lane_base.specs.Bits.{has}
 use Rattle.lane_base.specs.Registers as registers
-use Rattle.program_meaning.specs.Instructions.{Instr, all}
+use Rattle.program_meaning.specs.Instructions.{Instr}
+use Rattle.program_meaning.specs.Instructions as instr
 use Rattle.program_meaning.specs.Programs.{mask_count, value_count, IsInstruction, IsProgram}
 use Rattle.program_meaning.specs.Registers.{Lane, State, step, empty, after}
 use Rattle.program_meaning.proofs.Programs.{length-masks, length-values, masks_few, values_few, names_at}
@@ -24,8 +25,8 @@ module _ (table : Table) (ms : List LaneMask) (vs : List Lanes) (i : ℕ) where
   values_long l xs e = sym (length-map vs (λ l. registers.value_at table l i)) ∙ ap (λ (s : State). length s.values) e ∙ length-values l xs
 
 -- an instruction stands for that at its place
-pub viewed_at : (xs : List InstrCode) (k : ℕ) (x : InstrCode) → x ≡ slice_index_or xs k x → k < length xs → slice_index_or (map instr_view xs) k all ≡ instr_view x
-viewed_at xs k x e h = get_or-map instr_view xs k x all h ∙ ap instr_view (sym e)
+pub viewed_at : (xs : List InstrCode) (k : ℕ) (x : InstrCode) → x ≡ slice_index_or xs k x → k < length xs → slice_index_or (map instr_view xs) k instr.all ≡ instr_view x
+viewed_at xs k x e h = get_or-map instr_view xs k x instr.all h ∙ ap instr_view (sym e)
 
 -- what holds of the registers before one instruction of a program
 pub record IsNext (table : Table) (ms : List LaneMask) (vs : List Lanes) (program : List Instr) (x : Instr) : Type 0 where
@@ -33,12 +34,12 @@ pub record IsNext (table : Table) (ms : List LaneMask) (vs : List Lanes) (progra
   pub mask_room : length ms < length program
   pub value_room : length vs < length program
 
-pub is_next : (table : Table) (ms : List LaneMask) (vs : List Lanes) (program : List Instr) (k : ℕ) (x : Instr) (l : Lane) → k < length program → IsProgram program → slice_index_or program k all ≡ x → registers_at table ms vs 0 ≡ after l (take k program) → IsNext table ms vs program x
+pub is_next : (table : Table) (ms : List LaneMask) (vs : List Lanes) (program : List Instr) (k : ℕ) (x : Instr) (l : Lane) → k < length program → IsProgram program → slice_index_or program k instr.all ≡ x → registers_at table ms vs 0 ≡ after l (take k program) → IsNext table ms vs program x
 is_next table ms vs program k x l h p here e =
     let m = masks_long table ms vs 0 l (take k program) e in
     let v = values_long table ms vs 0 l (take k program) e in
     record {
-      names = rw (m, v, sym here) (names_at program k all h p);
+      names = rw (m, v, sym here) (names_at program k instr.all h p);
       mask_room = omega (arith, m, masks_few program k h);
       value_room = omega (arith, v, values_few program k h);
     }
@@ -51,7 +52,7 @@ take_next (x ∷ xs) (suc k) d h =
     rw e (ap (λ ys. x ∷ ys) (take_next xs k d (omega arith)))
 
 -- after one instruction more
-pub run_next : (l : Lane) (program : List Instr) (k : ℕ) (x : Instr) (s s' : State) → k < length program → slice_index_or program k all ≡ x → s ≡ after l (take k program) → s' ≡ step l s x → s' ≡ after l (take (k + 1) program)
+pub run_next : (l : Lane) (program : List Instr) (k : ℕ) (x : Instr) (s s' : State) → k < length program → slice_index_or program k instr.all ≡ x → s ≡ after l (take k program) → s' ≡ step l s x → s' ≡ after l (take (k + 1) program)
 run_next l program k x s s' h here before made =
     made ∙ ap (λ s. step l s x) before ∙ ap (step l (after l (take k program))) (sym here)
-    ∙ sym (ap (after l) (take_next program k all h) ∙ fold-append (step l) empty (take k program) (slice_index_or program k all ∷ []))
+    ∙ sym (ap (after l) (take_next program k instr.all h) ∙ fold-append (step l) empty (take k program) (slice_index_or program k instr.all ∷ []))

@@ -1,3 +1,4 @@
 pub mod Building
 pub mod LaneRegisters
 pub mod RowLanes
+pub mod OneMade

@@ -12,6 +12,7 @@ use Rattle.lane_field.proofs.Parts.{is_of}
 use Rattle.lane_base.specs.Bits.{has}
 use Rattle.lane_base.specs.Registers.{under}
 use Rattle.lane_base.specs.Shown.{is_nested, IsTree}
+use Rattle.eval_meaning.specs.Pair.{alone}
 use Rattle.program_meaning.specs.Registers.{Lane, lane_of}
 
 -- the bits below n
@@ -37,7 +38,7 @@ some_same : {a b : List ℕ} → Some b ≡ Some a → a ≡ b
 some_same {a = a} {b = b} e = sym (ap (λ o. unwrap_or o a) e)
 
 abbrev lane_with : Bool → Val → Lane
-lane_with b v = record { live = b; row = v }
+lane_with b v = record { live = b; pair = alone v }
 
 -- what a lane is given by a test and a value
 abbrev given : Bool → Val → Lane

@@ -2,10 +2,10 @@ ghost use Rattle.std.specs.Prelude.{◌≡◌, [], ◌∷◌, ◌++◌, length, 
 ghost use Rattle.std.specs.Option.{option_map};
 ghost use Rattle.lane_ssa.specs.EndParts.{out_view, agg_end_view};
 
-use tree_meaning::AggName;
 use snel_values::{OutOfMemory, Text};
 use std::alloc::Global;
 use std::marker::Model;
+use tree_meaning::AggName;
 
 /// What a job ends in: the registers that a query's answer is made from.
 #[derive(Drop)]

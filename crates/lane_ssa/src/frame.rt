@@ -5,6 +5,7 @@ ghost use Rattle.block_file.specs.Chunks.{AreCellsOf};
 ghost use Rattle.program_meaning.specs.Programs.{mask_count, value_count};
 ghost use Rattle.program_meaning.specs.Registers.{HasRun, mask_at};
 ghost use Rattle.program_meaning.specs.Registers as lane_registers;
+ghost use Rattle.program_meaning.specs.Simulation.{lanes_of};
 ghost use Rattle.lane_base.specs.Bits.{has};
 ghost use Rattle.lane_base.specs.Registers.{seen, AreLegal};
 ghost use Rattle.lane_base.specs.Shown.{value_under, IsLegal};
@@ -89,6 +90,7 @@ impl<'b> Frame<'b> {
     pub fn bind(&mut self, table: &SymTab<'b>)
         ensures bound { IsBound table.now self.new.job.program self.new.symbols }
         ensures job { self.new.job ≡ self.old.job }
+        ensures passed { self.new.passed ≡ self.old.passed }
         ensures chunks { self.new.chunks ≡ self.old.chunks }
         ensures kept { self.new.kept ≡ self.old.kept }
     {
@@ -100,7 +102,7 @@ impl<'b> Frame<'b> {
         requires bound { IsBound block.now.0 self.old.job.program self.old.symbols }
         requires chunk { IsChunkOf block.now.0 block.now.1 chunk.now }
         ensures ran { (first : ℕ) → AreCellsOf block.now.0 (rows_from first block.now.1) chunk.now
-            → HasRun self.new.job.program (rows_from first block.now.1) (state_at block.now.0 self.new) }
+            → HasRun self.new.job.program (lanes_of (rows_from first block.now.1)) (state_at block.now.0 self.new) }
         ensures legal { All (AreLegal block.now.0) self.new.values }
         ensures masks { length self.new.masks ≡ mask_count self.new.job.program }
         ensures values { length self.new.values ≡ value_count self.new.job.program }

@@ -13,6 +13,11 @@ pub enum Instr {
         mask: u32,
         of: u32,
     },
+    /// A mask: the lanes that aren't in the mask `less`.
+    Minus {
+        mask: u32,
+        less: u32,
+    },
     /// The row.
     Root {
         mask: u32,
@@ -49,6 +54,13 @@ pub enum Instr {
     Bin {
         mask: u32,
         op: BinOp,
+        a: u32,
+        b: u32,
+    },
+    /// `a` in the lanes of the mask `pick`, and `b` in the others.
+    Merge {
+        mask: u32,
+        pick: u32,
         a: u32,
         b: u32,
     },

@@ -1,6 +1,8 @@
 ghost use Rattle.std.specs.Prelude.{◌≡◌, ◌<◌, ◌++◌, ◌∷◌, [], ℕ, List, map, length, IfOk, OnErr, true, false};
-ghost use Rattle.program_meaning.specs.Programs.{IsInstruction, IsProgram, mask_count, value_count, number_after, makes_mask};
+ghost use Rattle.program_meaning.specs.Programs.{IsInstruction, IsProgram, mask_count, value_count, number_after};
+ghost use Rattle.program_meaning.specs.Instructions.{makes_mask};
 ghost use Rattle.program_meaning.specs.Jobs.{AreEnds, IsJob};
+ghost use Rattle.lane_ssa.specs.Kernels.{has_kernel, HaveKernels};
 ghost use Rattle.lane_ssa.specs.Views.{instr_view, ends_view};
 
 use crate::ends::Ends;
@@ -23,7 +25,7 @@ impl Model for Builder {
     ghost use Rattle.program_meaning.specs.Instructions.{Instr as Instruction};
     ghost use Rattle.lane_ssa.specs.Views.{instr_view};
     ghost use Rattle.lane_ssa.specs.Built.{IsBuilt};
-    ghost use Rattle.lane_ssa.specs.CodedJob.{coded_instr};
+    ghost use Rattle.program_meaning.specs.Code.{coded_instr};
 
     ghost Value = { List Instruction };
 
@@ -49,7 +51,8 @@ impl Builder {
     /// Adds an instruction at the end, and gives the number of the register that it makes. There may be as many registers of a
     /// kind as a `u32` counts.
     pub fn put(&mut self, instr: Instr) -> Result<u32, OutOfMemory>
-        requires { IsInstruction (mask_count self.old) (value_count self.old) (instr_view instr) }
+        requires names { IsInstruction (mask_count self.old) (value_count self.old) (instr_view instr) }
+        requires kernel { has_kernel (instr_view instr) ≡ true }
         ensures ok { IfOk result (λ r. self.new ≡ self.old ++ instr_view instr ∷ []) }
         ensures number { IfOk result (λ r. r ≡ number_after self.old (instr_view instr)) }
         ensures err { OnErr result (self.new ≡ self.old) }
@@ -86,7 +89,7 @@ impl Builder {
 fn makes_mask(instr: &Instr) -> bool
     ensures { result ≡ makes_mask (instr_view instr.now) }
 {
-    matches!(instr, Instr::All | Instr::True { .. })
+    matches!(instr, Instr::All | Instr::True { .. } | Instr::Minus { .. })
 }
 
 /// A program and what it ends in, seen as these. It is lent to the frames that run it.
@@ -98,7 +101,8 @@ pub struct Job {
 
 impl Model for Job {
     ghost use Rattle.std.specs.Prelude.{map};
-    ghost use Rattle.program_meaning.specs.Jobs.{Job as JobValue, IsJob};
+    ghost use Rattle.program_meaning.specs.Jobs.{Job as JobValue};
+    ghost use Rattle.lane_ssa.specs.Built.{IsReady};
     ghost use Rattle.lane_ssa.specs.JobViews.{job_view};
     ghost use Rattle.lane_ssa.specs.CodedJob.{coded_job};
 
@@ -108,7 +112,7 @@ impl Model for Job {
 
     ghost view = { λ j. job_view j.instrs.items j.ends };
 
-    ghost invariant = { λ j. IsJob (job_view j.instrs.items j.ends) };
+    ghost invariant = { λ j. IsReady (job_view j.instrs.items j.ends) };
 }
 
 impl Job {
@@ -116,6 +120,7 @@ impl Job {
     pub fn instrs(&self) -> &[Instr]
         ensures value { map instr_view result.now ≡ self.now.program }
         ensures program { IsProgram self.now.program }
+        ensures kernels { HaveKernels self.now.program }
     {
         self.instrs.as_slice()
     }

@@ -12,7 +12,6 @@ mod instr;
 mod job;
 mod literal;
 mod make;
-mod operands;
 mod path;
 mod rows;
 mod run;

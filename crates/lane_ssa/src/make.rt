@@ -1,76 +1,115 @@
 //! One instruction over the registers that were made before it.
 
-ghost use Rattle.std.specs.Prelude.{◌≡◌, ◌<◌, ◌≤◌, ◌++◌, ◌∷◌, [], ℕ, All, map, length, vec_len, vec_capacity};
+ghost use Rattle.std.specs.Prelude.{◌≡◌, ◌<◌, ◌≤◌, ◌++◌, ◌∷◌, [], ℕ, All, true, length, vec_len, vec_capacity};
 ghost use Rattle.block_meaning.specs.Tables.{Table};
+ghost use Rattle.eval_meaning.specs.Evaluation.{binary};
 ghost use Rattle.program_meaning.specs.Programs.{IsInstruction};
 ghost use Rattle.program_meaning.specs.Registers.{step};
 ghost use Rattle.lane_base.specs.Bits.{has};
 ghost use Rattle.lane_base.specs.Registers.{value_at, under, AreLegal};
 ghost use Rattle.lane_ssa.specs.Bound.{IsSymbolOf};
 ghost use Rattle.lane_ssa.specs.Frames.{registers_at};
-ghost use Rattle.lane_ssa.specs.Making.{plain_in, one_in, two_in, lane_at, IsKnown, IsReadable};
+ghost use Rattle.lane_ssa.specs.Kernels.{has_kernel, has_operator};
+ghost use Rattle.lane_ssa.specs.Making.{lane_at, IsReadable};
 ghost use Rattle.lane_ssa.specs.Views.{instr_view};
 
 use crate::instr::Instr;
 use crate::literal::look_of;
-use crate::operands::{Operands, operands_in};
 use crate::path::{field16, place16};
 use ion_symtab::SymTab;
-use lane_base::{LaneMask, Lanes, Look, and16, const16, is16, keep16, not16, or16, true16};
+use lane_base::{LaneMask, Lanes, and16, const16, is16, keep16, merge16, not16, or16, true16};
 use tree_meaning::BinOp;
 
-/// What an instruction makes of the rows, in the lanes of `m`; MISSING where it makes no value of them.
+/// Makes the register of one instruction. `symbol` is the number of its name.
 #[inline(always)]
-fn plain16<'b>(instr: &'b Instr, rows: &Lanes<'b>, m: LaneMask) -> Lanes<'b>
-    requires known { IsKnown (instr_view instr.now) }
-    ensures value { (table : Table) (i : ℕ) → i < 16
-        → value_at table result i ≡ under (has m.0 i) (plain_in (instr_view instr.now) (value_at table rows.now i)) }
-    ensures legal { (table : Table) → AreLegal table rows.now → AreLegal table result }
-{
-    match instr {
-        Instr::Root { .. } => keep16(rows, m),
-        Instr::Const { value, .. } => const16(look_of(value), m),
-        _ => const16(Look::Missing, m),
-    }
-}
-
-/// What an instruction makes of one value, in the lanes of `m`; MISSING where it makes no value of one.
-#[inline(always)]
-fn one16<'b>(
-    instr: &Instr,
+pub(crate) fn make<'b>(
+    instr: &'b Instr,
     symbol: Option<u32>,
     table: &SymTab<'b>,
-    a: &Lanes<'b>,
-    m: LaneMask,
-) -> Lanes<'b>
-    requires readable { IsReadable table.now }
+    live: LaneMask,
+    rows: &Lanes<'b>,
+    masks: &mut Vec<LaneMask>,
+    values: &mut Vec<Lanes<'b>>,
+)
+    requires names { IsInstruction (length masks.old.items) (length values.old.items) (instr_view instr.now) }
+    requires kernel { has_kernel (instr_view instr.now) ≡ true }
     requires symbol { IsSymbolOf table.now (instr_view instr.now) symbol }
-    requires legal { AreLegal table.now a.now }
-    ensures value { (i : ℕ) → i < 16
-        → value_at table.now result i ≡ under (has m.0 i) (one_in (instr_view instr.now) (value_at table.now a.now i)) }
-    ensures legal { AreLegal table.now result }
+    requires readable { IsReadable table.now }
+    requires rows { AreLegal table.now rows.now }
+    requires legal { All (AreLegal table.now) values.old.items }
+    requires mask_room { vec_len masks.old < vec_capacity masks.old }
+    requires value_room { vec_len values.old < vec_capacity values.old }
+    ensures state { (i : ℕ) → i < 16 → registers_at table.now masks.new.items values.new.items i
+        ≡ step (lane_at table.now live.0 rows.now i) (registers_at table.now masks.old.items values.old.items i) (instr_view instr.now) }
+    ensures legal { All (AreLegal table.now) values.new.items }
+    ensures mask_room { vec_capacity masks.old ≤ vec_capacity masks.new }
+    ensures value_room { vec_capacity values.old ≤ vec_capacity values.new }
 {
     match instr {
-        Instr::Field { .. } => field16(a, symbol, table, m),
-        Instr::At { at, .. } => place16(a, *at, table, m),
-        Instr::Not { .. } => not16(a, m),
-        Instr::Is { what, .. } => is16(*what, a, m),
-        _ => const16(Look::Missing, m),
+        Instr::All => put_mask(masks, live),
+        Instr::True { mask, of } => {
+            let made = true16(&values[*of as usize], masks[*mask as usize]);
+            put_mask(masks, made);
+        }
+        Instr::Minus { mask, less } => {
+            let made = masks[*mask as usize].minus(masks[*less as usize]);
+            put_mask(masks, made);
+        }
+        Instr::Root { mask } => put_value(values, keep16(rows, masks[*mask as usize])),
+        Instr::Const { mask, value } => put_value(
+            values,
+            const16(look_of(value), masks[*mask as usize]),
+        ),
+        Instr::Field { mask, of, .. } => {
+            let made = field16(&values[*of as usize], symbol, table, masks[*mask as usize]);
+            put_value(values, made);
+        }
+        Instr::At { mask, of, at } => {
+            let made = place16(&values[*of as usize], *at, table, masks[*mask as usize]);
+            put_value(values, made);
+        }
+        Instr::Not { mask, of } => {
+            let made = not16(&values[*of as usize], masks[*mask as usize]);
+            put_value(values, made);
+        }
+        Instr::Is { mask, what, of } => {
+            let made = is16(*what, &values[*of as usize], masks[*mask as usize]);
+            put_value(values, made);
+        }
+        Instr::Bin { mask, op, a, b } => {
+            let made = bin16(
+                *op,
+                &values[*a as usize],
+                &values[*b as usize],
+                masks[*mask as usize],
+            );
+            put_value(values, made);
+        }
+        Instr::Merge { mask, pick, a, b } => {
+            let pick = masks[*pick as usize];
+            let made = merge16(
+                pick,
+                &values[*a as usize],
+                &values[*b as usize],
+                masks[*mask as usize],
+            );
+            put_value(values, made);
+        }
     }
 }
 
-/// What an instruction makes of two values, in the lanes of `m`; MISSING where it makes no value of two.
+/// What an operator gives of two values, in the lanes of `m`.
 #[inline(always)]
-fn two16<'b>(instr: &Instr, a: &Lanes<'b>, b: &Lanes<'b>, m: LaneMask) -> Lanes<'b>
-    requires known { IsKnown (instr_view instr.now) }
+fn bin16<'b>(op: BinOp, a: &Lanes<'b>, b: &Lanes<'b>, m: LaneMask) -> Lanes<'b>
+    requires { has_operator op ≡ true }
     ensures value { (table : Table) → AreLegal table a.now → AreLegal table b.now → (i : ℕ) → i < 16
-        → value_at table result i ≡ under (has m.0 i) (two_in (instr_view instr.now) (value_at table a.now i) (value_at table b.now i)) }
+        → value_at table result i ≡ under (has m.0 i) (binary op (value_at table a.now i) (value_at table b.now i)) }
     ensures legal { (table : Table) → AreLegal table result }
 {
-    match instr {
-        Instr::Bin { op: BinOp::And, .. } => and16(a, b, m),
-        Instr::Bin { op: BinOp::Or, .. } => or16(a, b, m),
-        _ => const16(Look::Missing, m),
+    match op {
+        BinOp::And => and16(a, b, m),
+        BinOp::Or => or16(a, b, m),
+        _ => unreachable!(),
     }
 }
 
@@ -97,61 +136,5 @@ fn put_value<'b>(values: &mut Vec<Lanes<'b>>, value: Lanes<'b>)
     match values.push(value) {
         Ok(()) => {}
         Err(_) => unreachable!(),
-    }
-}
-
-/// Makes the register of one instruction. `symbol` is the number of its name.
-#[inline(always)]
-pub(crate) fn make<'b>(
-    instr: &'b Instr,
-    symbol: Option<u32>,
-    table: &SymTab<'b>,
-    live: LaneMask,
-    rows: &Lanes<'b>,
-    masks: &mut Vec<LaneMask>,
-    values: &mut Vec<Lanes<'b>>,
-)
-    requires names { IsInstruction (length masks.old.items) (length values.old.items) (instr_view instr.now) }
-    requires symbol { IsSymbolOf table.now (instr_view instr.now) symbol }
-    requires readable { IsReadable table.now }
-    requires rows { AreLegal table.now rows.now }
-    requires legal { All (AreLegal table.now) values.old.items }
-    requires mask_room { vec_len masks.old < vec_capacity masks.old }
-    requires value_room { vec_len values.old < vec_capacity values.old }
-    ensures state { (i : ℕ) → i < 16 → registers_at table.now masks.new.items values.new.items i
-        ≡ step (lane_at table.now live.0 rows.now i) (registers_at table.now masks.old.items values.old.items i) (instr_view instr.now) }
-    ensures legal { All (AreLegal table.now) values.new.items }
-    ensures mask_room { vec_capacity masks.old ≤ vec_capacity masks.new }
-    ensures value_room { vec_capacity values.old ≤ vec_capacity values.new }
-{
-    match operands_in(instr) {
-        Operands::Live => put_mask(masks, live),
-        Operands::Truth { mask, of } => {
-            let made = true16(&values[of as usize], masks[mask as usize]);
-            put_mask(masks, made);
-        }
-        Operands::Plain { mask } => {
-            let made = plain16(instr, rows, masks[mask as usize]);
-            put_value(values, made);
-        }
-        Operands::One { mask, of } => {
-            let made = one16(
-                instr,
-                symbol,
-                table,
-                &values[of as usize],
-                masks[mask as usize],
-            );
-            put_value(values, made);
-        }
-        Operands::Two { mask, a, b } => {
-            let made = two16(
-                instr,
-                &values[a as usize],
-                &values[b as usize],
-                masks[mask as usize],
-            );
-            put_value(values, made);
-        }
     }
 }

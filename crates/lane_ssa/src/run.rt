@@ -2,10 +2,12 @@ ghost use Rattle.std.specs.Prelude.{◌≡◌, ◌<◌, ◌≤◌, ℕ, All, map
 ghost use Rattle.block_file.specs.Chunks.{AreCellsOf};
 ghost use Rattle.program_meaning.specs.Programs.{IsProgram, mask_count, value_count};
 ghost use Rattle.program_meaning.specs.Registers.{after, HasRun};
+ghost use Rattle.program_meaning.specs.Simulation.{lanes_of};
 ghost use Rattle.lane_base.specs.Registers.{AreLegal};
 ghost use Rattle.lane_ssa.specs.Bound.{IsBound};
 ghost use Rattle.lane_ssa.specs.ChunksOf.{rows_from, IsChunkOf};
 ghost use Rattle.lane_ssa.specs.Frames.{registers_at};
+ghost use Rattle.lane_ssa.specs.Kernels.{HaveKernels};
 ghost use Rattle.lane_ssa.specs.Making.{lane_at, IsReadable};
 ghost use Rattle.lane_ssa.specs.Views.{instr_view};
 
@@ -28,6 +30,7 @@ fn run<'b>(
     values: &mut Vec<Lanes<'b>>,
 )
     requires program { IsProgram (map instr_view instrs.now) }
+    requires kernels { HaveKernels (map instr_view instrs.now) }
     requires bound { IsBound table.now (map instr_view instrs.now) symbols.now }
     requires readable { IsReadable table.now }
     requires rows { AreLegal table.now rows.now }
@@ -60,7 +63,8 @@ pub(crate) fn run_rows<'b>(
     requires mask_room { length job.now.program ≤ vec_capacity masks.old }
     requires value_room { length job.now.program ≤ vec_capacity values.old }
     ensures ran { (first : ℕ) → AreCellsOf block.now.0 (rows_from first block.now.1) chunk.now
-        → HasRun job.now.program (rows_from first block.now.1) (registers_at block.now.0 masks.new.items values.new.items) }
+        → HasRun job.now.program (lanes_of (rows_from first block.now.1))
+        (registers_at block.now.0 masks.new.items values.new.items) }
     ensures legal { All (AreLegal block.now.0) values.new.items }
     ensures masks { length masks.new.items ≡ mask_count job.now.program }
     ensures values { length values.new.items ≡ value_count job.now.program }

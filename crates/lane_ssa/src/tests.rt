@@ -1,17 +1,19 @@
 ghost use Rattle.std.specs.Prelude.{◌≡◌, ◌+◌, ◌%◌, ◌<◌, true, false, length, IfOk};
-ghost use Rattle.program_meaning.specs.Programs.{IsInstruction, makes_mask, mask_count, value_count};
+ghost use Rattle.program_meaning.specs.Programs.{IsInstruction, mask_count, value_count};
+ghost use Rattle.program_meaning.specs.Instructions.{makes_mask};
 ghost use Rattle.program_meaning.specs.Jobs.{AreEnds};
 ghost use Rattle.lane_ssa.specs.Bound.{IsBound};
+ghost use Rattle.lane_ssa.specs.Kernels.{has_kernel};
 ghost use Rattle.lane_ssa.specs.Views.{instr_view, ends_view};
 
 use crate::{Builder, EndAggs, EndOuts, Ends, Frame, Instr, Job, Registers, Tally};
 use block_file::{Block, open_block};
 use lane_base::{LaneMask, Look};
 use snel_values::{OutOfMemory, Text, Value};
-use tree_meaning::{BinOp, IsWhat};
 use std::alloc::Global;
 use std::process::Abort;
 use std::test::Fail;
+use tree_meaning::{BinOp, IsWhat};
 
 /// The table of `a` and `b` and the rows `{"a":1,"b":"x"}`, `{"a":null}` and `{"b":7}`.
 const THREE: &[u8] = &[
@@ -28,6 +30,7 @@ const SEVENTEEN: &[u8] = &[
 /// Adds an instruction that makes a value.
 fn value(builder: &mut Builder, instr: Instr) -> Result<(), OutOfMemory>
     requires names { IsInstruction (mask_count builder.old) (value_count builder.old) (instr_view instr) }
+    requires kernel { has_kernel (instr_view instr) ≡ true }
     requires makes { makes_mask (instr_view instr) ≡ false }
     ensures masks { IfOk result (λ _. mask_count builder.new ≡ mask_count builder.old) }
     ensures values { IfOk result (λ _. value_count builder.new ≡ value_count builder.old + 1) }
@@ -39,6 +42,7 @@ fn value(builder: &mut Builder, instr: Instr) -> Result<(), OutOfMemory>
 /// Adds an instruction that makes a mask.
 fn mask(builder: &mut Builder, instr: Instr) -> Result<(), OutOfMemory>
     requires names { IsInstruction (mask_count builder.old) (value_count builder.old) (instr_view instr) }
+    requires kernel { has_kernel (instr_view instr) ≡ true }
     requires makes { makes_mask (instr_view instr) ≡ true }
     ensures masks { IfOk result (λ _. mask_count builder.new ≡ mask_count builder.old + 1) }
     ensures values { IfOk result (λ _. value_count builder.new ≡ value_count builder.old) }

@@ -10,7 +10,6 @@ use Rattle.tree_meaning.specs.declared.BinOp.{BinOp}
 use Rattle.tree_meaning.specs.declared.BinOp.TheVariants as op
 use Rattle.tree_meaning.specs.declared.IsWhat.{IsWhat}
 use Rattle.tree_meaning.specs.declared.IsWhat.TheVariants as what
-use Rattle.tree_meaning.specs.declared.How.{How}
 use Rattle.tree_meaning.specs.declared.How.TheVariants as how
 use Rattle.tree_meaning.specs.declared.Func.{Func}
 use Rattle.tree_meaning.specs.declared.Func.TheVariants as func

@@ -1,17 +1,16 @@
 -- The first place that is so, and the aggregates of all places.
-use Rattle.std.proofs.Common.{◌≡◌, ℕ, zero, suc, ◌+◌, ◌-◌, ◌<◌, ◌≤◌, Bool, true, false, ◌||◌, List, [], ◌∷◌, ◌++◌, length, map, take, drop, Option, Some, None, refl, sym, ◌∙◌, ap, arith, cond}
-use Rattle.std.specs.Prelude.{slice_get, find, is_some, nat_lt}
+use Rattle.std.proofs.Common.{◌≡◌, ℕ, ◌+◌, ◌≤◌, Bool, true, false, ◌||◌, List, [], ◌∷◌, length, drop, Option, Some, None, refl, sym, ◌∙◌, ap, cond}
+use Rattle.std.specs.Prelude.{slice_get, find, is_some}
 use Rattle.std.specs.List.{list_any, flat_map}
 use Rattle.std.specs.Option.{option_map}
 use Rattle.tree_meaning.specs.Tree.{Ex, Query}
 use Rattle.check_meaning.specs.Place.{Place}
 use Rattle.check_meaning.specs.Places.{places}
 use Rattle.check_meaning.specs.Parts.{parts}
-use Rattle.check_meaning.specs.Aggregates.{asks_a_group, is_grouped, aggregates}
+use Rattle.check_meaning.specs.Aggregates.{aggregates}
 use Rattle.check_meaning.specs.Verdict.{first_place}
-use Rattle.query_check.proofs.Listed.{some_is}
-use Rattle.query_check.proofs.Searching.{drop_at, drop_end, find_here, find_next, find_end}
-use Rattle.query_check.proofs.Walking.{gathered, gathered_append}
+use Rattle.query_walk.proofs.Searching.{drop_at, drop_end, find_here, find_next, find_end}
+use Rattle.query_walk.proofs.Walking.{gathered, gathered_append}
 
 any_found : {A : Type 0} (p : A → Bool) (xs : List A) → list_any p xs ≡ is_some (find p xs)
 any_found p [] = refl

@@ -1,11 +1,11 @@
 -- The number of the first that is so.
-use Rattle.std.proofs.Common.{◌≡◌, ℕ, zero, suc, ◌+◌, ◌-◌, ◌<◌, ◌≤◌, Bool, true, false, List, [], ◌∷◌, length, map, take, drop, Option, Some, None, refl, sym, ◌∙◌, ap, arith}
+use Rattle.std.proofs.Common.{◌≡◌, ℕ, zero, suc, ◌+◌, ◌-◌, ◌<◌, ◌≤◌, Bool, true, false, List, [], ◌∷◌, length, take, drop, Some, None, refl, sym, ◌∙◌, ap, arith}
 use Rattle.std.specs.Prelude.{slice_get, find}
 use Rattle.std.specs.Option.{option_map}
 use Rattle.std.specs.Str.{bytes_eq}
 use Rattle.std.specs.List.{list_any, enumerate_from}
 use Rattle.check_meaning.specs.Verdict.{first_number}
-use Rattle.query_check.proofs.Searching.{find_here, find_next, find_end}
+use Rattle.query_walk.proofs.Searching.{find_here, find_next, find_end}
 use Rattle.query_check.proofs.Numbered.{numbered_at, length_numbered}
 
 module _ {A : Type 0} (t : ℕ × A → Bool) (xs : List A) (k : ℕ) (sofar : find t (enumerate_from 1 xs) ≡ find t (drop k (enumerate_from 1 xs))) where

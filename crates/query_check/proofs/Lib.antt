@@ -1,9 +1,3 @@
-pub mod Chains
-pub mod Listed
-pub mod Rebuilt
-pub mod Searching
-pub mod Smaller
-pub mod Walking
 pub mod Numbered
 pub mod Ordered
 pub mod Placing

@@ -1,19 +1,18 @@
 -- Which limit is passed, and whether a query is grouped.
-use Rattle.std.proofs.Common.{◌≡◌, ℕ, zero, suc, ◌+◌, ◌-◌, ◌<◌, ◌≤◌, Bool, true, false, List, [], ◌∷◌, length, map, take, Option, Some, None, refl, sym, ◌∙◌, ap, arith}
-use Rattle.std.specs.Prelude.{slice_get, nat_lt, is_some, if◌then◌else◌}
+use Rattle.std.proofs.Common.{◌≡◌, ℕ, zero, suc, ◌<◌, ◌≤◌, Bool, true, false, List, [], ◌∷◌, length, take, Option, Some, None, refl, sym, ◌∙◌, ap, arith}
+use Rattle.std.specs.Prelude.{slice_get, nat_lt, is_some}
 use Rattle.std.specs.Option.{option_map}
 use Rattle.std.specs.Str.{bytes_eq}
 use Rattle.std.specs.List.{list_any}
 use Rattle.std.proofs.lemmas.Bool.Decides.{nat_tests}
 use Rattle.tree_meaning.specs.Tree.{Query}
 use Rattle.check_meaning.specs.Limit as limit
-use Rattle.check_meaning.specs.Place.{Place}
 use Rattle.check_meaning.specs.Places.{output_exs}
 use Rattle.check_meaning.specs.Tests.{has_long_path}
 use Rattle.check_meaning.specs.Aggregates.{is_grouped, asks_a_group, aggregates}
 use Rattle.check_meaning.specs.Verdict.{passed_limit, first_place}
 use Rattle.query_check.specs.Placed.{IsWithin}
-use Rattle.query_check.proofs.Listed.{some_is}
+use Rattle.query_walk.proofs.Listed.{some_is}
 use Rattle.query_check.proofs.AllPlaces.{any_place, some_mapped}
 
 past : (m n k : ℕ) → k ≡ n → m < k → nat_lt m n ≡ true

@@ -1,14 +1,13 @@
 -- Elements of a list with their numbers.
-use Rattle.std.proofs.Common.{◌≡◌, ℕ, zero, suc, ◌+◌, ◌<◌, List, [], ◌∷◌, length, map, take, Option, Some, None, refl, sym, ◌∙◌, ap, arith, add-one}
+use Rattle.std.proofs.Common.{◌≡◌, ℕ, zero, suc, ◌+◌, List, [], ◌∷◌, length, map, Some, refl, ◌∙◌, ap, arith}
 use Rattle.std.specs.Prelude.{slice_get}
 use Rattle.std.specs.List.{enumerate_from}
-use Rattle.std.specs.Option.{option_map}
 use Rattle.std.proofs.lemmas.List.{length-map}
 use Rattle.snel_values.specs.declared.steps.Step.{Step}
 use Rattle.snel_values.specs.declared.steps.Step.TheVariants as step
 use Rattle.query_tree.specs.View.{step_view}
 use Rattle.check_meaning.specs.Names.{last_name}
-use Rattle.query_check.proofs.Listed.{some_is, mapped_at}
+use Rattle.query_walk.proofs.Listed.{some_is}
 
 module _ {A : Type 0} where
   pub numbered_at : (xs : List A) (n k : ℕ) (x : A) → slice_get xs k ≡ Some x → slice_get (enumerate_from n xs) k ≡ Some (n + k, x)

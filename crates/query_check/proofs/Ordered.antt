@@ -1,5 +1,5 @@
 -- What an order key stands for.
-use Rattle.std.proofs.Common.{◌≡◌, ℕ, zero, suc, ◌-◌, ℤ, pos, negsuc, Bool, true, false, List, [], ◌∷◌, length, map, Option, Some, None, refl, sym, ◌∙◌, ap, arith}
+use Rattle.std.proofs.Common.{◌≡◌, ℕ, zero, suc, ◌-◌, ℤ, pos, negsuc, true, false, List, [], ◌∷◌, length, map, Some, None, refl, sym, ◌∙◌, ap, arith}
 use Rattle.std.specs.Prelude.{slice_get}
 use Rattle.std.proofs.lemmas.Bool.Decides.{nat_tests}
 use lib.Signed.{lt_z}
@@ -10,7 +10,7 @@ use Rattle.snel_values.specs.declared.steps.Step.TheVariants as step
 use Rattle.query_tree.specs.View.{step_view}
 use Rattle.check_meaning.specs.Names.{last_name}
 use Rattle.check_meaning.specs.Places.{as_name, output_at, output_exs}
-use Rattle.query_check.proofs.Listed.{some_is}
+use Rattle.query_walk.proofs.Listed.{some_is}
 
 pub only_step : (row : ℕ) (ss : List Step) (s : Step) → row ≡ 0 → length ss ≡ 1 → slice_get ss 0 ≡ Some s → last_name (step_view s ∷ []) ≡ as_name (path row (map step_view ss))
 only_step row [] s e l h = cc

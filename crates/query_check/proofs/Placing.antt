@@ -7,8 +7,8 @@ use Rattle.tree_meaning.specs.Tree.{Ex, Query}
 use Rattle.check_meaning.specs.Place.{Place, output, where_test, group_key, having, order_key}
 use Rattle.check_meaning.specs.Places.{counted, alone, output_exs, order_ex, places}
 use Rattle.query_check.specs.Placed.{order_places, having_places, key_places, where_places}
-use Rattle.query_check.proofs.Listed.{mapped_at}
-use Rattle.query_check.proofs.Numbered.{numbered_at, length_numbered, length_mapped}
+use Rattle.query_walk.proofs.Listed.{mapped_at}
+use Rattle.query_check.proofs.Numbered.{numbered_at, length_mapped}
 
 module _ {A : Type 0} where
   pub get_left : (xs ys : List A) (k : ℕ) (x : A) → slice_get xs k ≡ Some x → slice_get (xs ++ ys) k ≡ Some x

@@ -1,6 +1,5 @@
 -- What the limits, places and faults of the code stand for.
 use Rattle.std.specs.Prelude.{◌≡◌, Option, Some}
-use Rattle.tree_meaning.specs.Tree.{Ex}
 use Rattle.check_meaning.specs.Limit as limit
 use Rattle.check_meaning.specs.Limit.{Limit}
 use Rattle.check_meaning.specs.Place as place

@@ -1,5 +1,3 @@
-pub mod Heads
-pub mod Asked
 pub mod Faults
 pub mod Placed
 pub mod CodedQuery

@@ -1,9 +1,9 @@
 -- The places of a query, from one kind of place on, and what is asked at them.
-use Rattle.std.specs.Prelude.{◌≡◌, ℕ, ◌≤◌, Bool, List, ◌++◌, map, length}
+use Rattle.std.specs.Prelude.{◌≤◌, Bool, List, ◌++◌, map, length}
 use Rattle.tree_meaning.specs.Tree.{Ex, Query}
 use Rattle.check_meaning.specs.Limit.{most}
 use Rattle.check_meaning.specs.Limit as limit
-use Rattle.check_meaning.specs.Place.{Place, output, where_test, group_key, having, order_key}
+use Rattle.check_meaning.specs.Place.{Place, where_test, group_key, having, order_key}
 use Rattle.check_meaning.specs.Places.{counted, alone, output_exs, order_ex}
 use Rattle.check_meaning.specs.Aggregates.{asks_a_group}
 use Rattle.check_meaning.specs.Tests.{has_long_path, is_nested, is_not_grouped, is_over_groups}

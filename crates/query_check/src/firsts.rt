@@ -5,7 +5,6 @@ ghost use Rattle.std.specs.Str.{bytes_eq};
 ghost use Rattle.check_meaning.specs.Aggregates as aggs;
 ghost use Rattle.check_meaning.specs.Names as named;
 ghost use Rattle.check_meaning.specs.Verdict as verdict;
-ghost use Rattle.query_tree.specs.View.{view};
 ghost use Rattle.query_tree.specs.Queries.{outs_view, query_view};
 ghost use Rattle.query_check.specs.Faults.{place_view, limit_view};
 ghost use Rattle.query_check.specs.Placed as placed;
@@ -14,9 +13,9 @@ use crate::fault::{Limit, Place};
 use crate::names::Names;
 use crate::order::{as_number, name_at, output_at, output_count};
 use crate::places::{Rule, is_so, number, order_key, place_at, place_count};
-use crate::walk::gather;
+use query_tree::{Exprs, Operand, Outputs, Query};
+use query_walk::gather;
 use snel_values::OutOfMemory;
-use query_tree::{Expr, Exprs, Outputs, Query};
 use std::alloc::Global;
 
 /// The first place that is so.
@@ -94,8 +93,8 @@ pub(crate) fn first_same_name(names: &Names) -> Option<u32>
 }
 
 /// Whether the order key is the number of no output.
-fn is_no_number(outputs: &Outputs, key: &Expr) -> bool
-    ensures { result ≡ verdict.is_no_number (outs_view outputs.now) (view key.now) }
+fn is_no_number(outputs: &Outputs, key: &Operand) -> bool
+    ensures { result ≡ verdict.is_no_number (outs_view outputs.now) key.now }
 {
     match as_number(key) {
         Some(number) => output_at(outputs, number).is_none(),

@@ -1,21 +1,15 @@
-//! Checks of queries: names of outputs, aggregates, grouping, and the first fault of a query that isn't accepted.
+//! Checks of queries: [`check`] takes a well formed query and hands it back as [`Checked`], with the names of its outputs,
+//! its distinct aggregates and whether it is grouped, or gives its first fault.
 #![tactic(auto)]
 
-mod copies;
-mod details;
-mod equal;
 mod fault;
+mod findings;
 mod firsts;
-mod heads;
 mod names;
-mod operands;
 mod order;
 mod places;
 mod verdict;
-mod walk;
 
-pub use copies::copy_expr;
-pub use equal::{is_among, same_expr};
 pub use fault::{CheckFault, Limit, Place};
 pub use names::Names;
 pub use verdict::{Checked, check};

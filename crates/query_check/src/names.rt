@@ -1,12 +1,12 @@
 ghost use Rattle.std.specs.Prelude.{◌≡◌, ◌<◌, ◌+◌, [], ◌∷◌, ◌++◌, length, map, slice_get, Some, OnOk, OnErr, IfOk, option_copied};
 ghost use Rattle.std.specs.List.{enumerate_from};
 ghost use Rattle.check_meaning.specs.Names as spec;
-ghost use Rattle.query_tree.specs.View.{view, step_view};
+ghost use Rattle.query_tree.specs.View.{step_view};
 ghost use Rattle.query_tree.specs.Parts.{item_view};
 ghost use Rattle.query_tree.specs.Queries.{outs_view};
 
+use query_tree::{Expr, Item, Operand, OutItems, Outputs};
 use snel_values::{OutOfMemory, Step, Steps, Text};
-use query_tree::{Expr, Item, OutItems, Outputs};
 use std::alloc::Global;
 use std::marker::Model;
 
@@ -91,10 +91,10 @@ fn last_name(steps: &Steps) -> Option<&Text>
 }
 
 /// The name that an expression has by itself, where it is a path.
-fn path_name(expr: &Expr) -> Option<&Text>
-    ensures { option_copied result ≡ spec.path_name (view expr.now) }
+fn path_name(expr: &Operand) -> Option<&Text>
+    ensures { option_copied result ≡ spec.path_name expr.now }
 {
-    match expr {
+    match expr.get() {
         Expr::Path { row: _, steps } => last_name(steps),
         _ => None,
     }

@@ -4,14 +4,14 @@ ghost use Rattle.std.specs.List.{position_from};
 ghost use Rattle.std.specs.Str.{bytes_eq};
 ghost use Rattle.check_meaning.specs.Names as named;
 ghost use Rattle.check_meaning.specs.Places as spec;
-ghost use Rattle.query_tree.specs.View.{view, step_view};
+ghost use Rattle.query_tree.specs.View.{step_view};
 ghost use Rattle.query_tree.specs.Queries.{outs_view};
 ghost use Rattle.snel_values.specs.View.{view as value_view};
 ghost use Rattle.tree_meaning.specs.Tree.{lit, path};
 
 use crate::names::{Names, output_item, step_at, step_name};
+use query_tree::{Expr, Operand, OutItems, Outputs};
 use snel_values::{Steps, Text, Value};
-use query_tree::{Expr, OutItems, Outputs};
 
 /// How many outputs there are; `*` has none.
 pub(crate) fn output_count(outputs: &Outputs) -> usize
@@ -24,8 +24,8 @@ pub(crate) fn output_count(outputs: &Outputs) -> usize
 }
 
 /// The expression of an output at a place, counted from 0.
-fn item_ex(items: &OutItems, at: u128) -> Option<&Expr>
-    ensures { option_map (λ e. view e.now) result ≡ slice_get (map (λ o. o.0) items.now) at }
+fn item_ex(items: &OutItems, at: u128) -> Option<&Operand>
+    ensures { option_copied result ≡ slice_get (map (λ o. o.0) items.now) at }
 {
     if at < items.len() as u128 {
         Some(&output_item(items, at as usize).expr)
@@ -35,8 +35,8 @@ fn item_ex(items: &OutItems, at: u128) -> Option<&Expr>
 }
 
 /// The output at a place, counted from 0.
-pub(crate) fn output_ex(outputs: &Outputs, at: u128) -> Option<&Expr>
-    ensures { option_map (λ e. view e.now) result ≡
+pub(crate) fn output_ex(outputs: &Outputs, at: u128) -> Option<&Operand>
+    ensures { option_copied result ≡
         slice_get (spec.output_exs (outs_view outputs.now)) at }
 {
     match outputs {
@@ -46,8 +46,8 @@ pub(crate) fn output_ex(outputs: &Outputs, at: u128) -> Option<&Expr>
 }
 
 /// The output of this number, counted from 1.
-pub(crate) fn output_at(outputs: &Outputs, number: i128) -> Option<&Expr>
-    ensures { option_map (λ e. view e.now) result ≡ spec.output_at (outs_view outputs.now) number }
+pub(crate) fn output_at(outputs: &Outputs, number: i128) -> Option<&Operand>
+    ensures { option_copied result ≡ spec.output_at (outs_view outputs.now) number }
 {
     if number < 1 {
         return None;
@@ -80,9 +80,9 @@ pub(crate) fn name_at(names: &Names, at: usize) -> &Text
 
 /// The first output of that name.
 #[tactic(auto, unfolding(check_meaning::specs::Places::output_named))]
-fn output_named<'a>(outputs: &'a Outputs, names: &Names, name: &str) -> Option<&'a Expr>
+fn output_named<'a>(outputs: &'a Outputs, names: &Names, name: &str) -> Option<&'a Operand>
     requires { names.now ≡ named.names (outs_view outputs.now) }
-    ensures { option_map (λ e. view e.now) result ≡
+    ensures { option_copied result ≡
         spec.output_named (outs_view outputs.now) name.now }
 {
     match name_place(names, name) {
@@ -101,10 +101,10 @@ fn int_of(value: &Value) -> Option<i128>
 }
 
 /// The number that a literal is.
-pub(crate) fn as_number(expr: &Expr) -> Option<i128>
-    ensures { result ≡ spec.as_number (view expr.now) }
+pub(crate) fn as_number(expr: &Operand) -> Option<i128>
+    ensures { result ≡ spec.as_number expr.now }
 {
-    match expr {
+    match expr.get() {
         Expr::Lit(value) => int_of(value),
         _ => None,
     }
@@ -122,19 +122,19 @@ fn only_name(row: u8, steps: &Steps) -> Option<&Text>
 }
 
 /// The name that is all of a path from the row.
-fn as_name(expr: &Expr) -> Option<&Text>
-    ensures { option_copied result ≡ spec.as_name (view expr.now) }
+fn as_name(expr: &Operand) -> Option<&Text>
+    ensures { option_copied result ≡ spec.as_name expr.now }
 {
-    match expr {
+    match expr.get() {
         Expr::Path { row, steps } => only_name(*row, steps),
         _ => None,
     }
 }
 
 /// The output whose number the order key is.
-fn by_number<'a>(outputs: &'a Outputs, key: &Expr) -> Option<&'a Expr>
-    ensures { option_map (λ e. view e.now) result ≡
-        option_and_then (spec.output_at (outs_view outputs.now)) (spec.as_number (view key.now)) }
+fn by_number<'a>(outputs: &'a Outputs, key: &Operand) -> Option<&'a Operand>
+    ensures { option_copied result ≡
+        option_and_then (spec.output_at (outs_view outputs.now)) (spec.as_number key.now) }
 {
     match as_number(key) {
         Some(number) => output_at(outputs, number),
@@ -143,10 +143,10 @@ fn by_number<'a>(outputs: &'a Outputs, key: &Expr) -> Option<&'a Expr>
 }
 
 /// The output whose name the order key is.
-fn by_name<'a>(outputs: &'a Outputs, names: &Names, key: &Expr) -> Option<&'a Expr>
+fn by_name<'a>(outputs: &'a Outputs, names: &Names, key: &Operand) -> Option<&'a Operand>
     requires { names.now ≡ named.names (outs_view outputs.now) }
-    ensures { option_map (λ e. view e.now) result ≡
-        option_and_then (spec.output_named (outs_view outputs.now)) (spec.as_name (view key.now)) }
+    ensures { option_copied result ≡
+        option_and_then (spec.output_named (outs_view outputs.now)) (spec.as_name key.now) }
 {
     match as_name(key) {
         Some(name) => output_named(outputs, names, name.as_str()),
@@ -156,9 +156,9 @@ fn by_name<'a>(outputs: &'a Outputs, names: &Names, key: &Expr) -> Option<&'a Ex
 
 /// What an order key stands for: an output, or itself.
 #[tactic(auto, unfolding(check_meaning::specs::Places::order_ex))]
-pub(crate) fn order_ex<'a>(outputs: &'a Outputs, names: &Names, key: &'a Expr) -> &'a Expr
+pub(crate) fn order_ex<'a>(outputs: &'a Outputs, names: &Names, key: &'a Operand) -> &'a Operand
     requires { names.now ≡ named.names (outs_view outputs.now) }
-    ensures { view result.now ≡ spec.order_ex (outs_view outputs.now) (view key.now) }
+    ensures { result.now ≡ spec.order_ex (outs_view outputs.now) key.now }
 {
     match by_number(outputs, key) {
         Some(output) => output,

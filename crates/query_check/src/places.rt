@@ -1,10 +1,8 @@
 ghost use Rattle.std.specs.Prelude.{◌≡◌, ◌<◌, ◌≤◌, ◌+◌, length, slice_get, Some};
-ghost use Rattle.std.specs.Option.{option_map};
 ghost use Rattle.check_meaning.specs.Names as named;
 ghost use Rattle.check_meaning.specs.Places as spec;
 ghost use Rattle.check_meaning.specs.Place as site;
 ghost use Rattle.check_meaning.specs.Place.{Place as Site};
-ghost use Rattle.query_tree.specs.View.{view};
 ghost use Rattle.query_tree.specs.Parts.{key_view};
 ghost use Rattle.query_tree.specs.Queries.{outs_view, query_view};
 ghost use Rattle.query_check.specs.Faults.{place_view};
@@ -12,10 +10,9 @@ ghost use Rattle.query_check.specs.Placed as placed;
 
 use crate::fault::Place;
 use crate::names::Names;
-use crate::operands::item;
 use crate::order::{order_ex, output_count, output_ex};
-use crate::walk::{Asked, has_doubled, has_part};
-use query_tree::{Expr, Exprs, OrderKey, OrderKeys, Outputs, Query};
+use query_tree::{Exprs, Operand, OrderKey, OrderKeys, Outputs, Query};
+use query_walk::{Asked, has_doubled, has_part, item};
 
 /// The number of what stands at a place that is counted from 0.
 pub(crate) fn number(at: usize) -> u32
@@ -26,9 +23,9 @@ pub(crate) fn number(at: usize) -> u32
 }
 
 /// The output at a place, counted from 0.
-fn some_output(outputs: &Outputs, at: usize) -> &Expr
+fn some_output(outputs: &Outputs, at: usize) -> &Operand
     requires { at < length (spec.output_exs (outs_view outputs.now)) }
-    ensures { slice_get (spec.output_exs (outs_view outputs.now)) at ≡ Some (view result.now) }
+    ensures { slice_get (spec.output_exs (outs_view outputs.now)) at ≡ Some result.now }
 {
     match output_ex(outputs, at as u128) {
         Some(found) => found,
@@ -48,12 +45,12 @@ pub(crate) fn order_key(keys: &OrderKeys, at: usize) -> &OrderKey
 }
 
 /// What an order key stands for, and its place.
-fn order_place<'a>(query: &'a Query, names: &Names, at: usize) -> (Place, &'a Expr)
+fn order_place<'a>(query: &'a Query, names: &Names, at: usize) -> (Place, &'a Operand)
     requires within { placed.IsWithin (query_view query.now) }
     requires names { names.now ≡ named.names (outs_view query.now.outputs) }
     requires at { at < length (placed.order_places (query_view query.now)) }
     ensures { slice_get (placed.order_places (query_view query.now)) at ≡
-        Some (place_view result.0, view result.1.now) }
+        Some (place_view result.0, result.1.now) }
 {
     let key = &order_key(&query.order, at).expr;
     (
@@ -63,12 +60,12 @@ fn order_place<'a>(query: &'a Query, names: &Names, at: usize) -> (Place, &'a Ex
 }
 
 /// What stands at a place from HAVING on.
-fn having_place<'a>(query: &'a Query, names: &Names, at: usize) -> (Place, &'a Expr)
+fn having_place<'a>(query: &'a Query, names: &Names, at: usize) -> (Place, &'a Operand)
     requires within { placed.IsWithin (query_view query.now) }
     requires names { names.now ≡ named.names (outs_view query.now.outputs) }
     requires at { at < length (placed.having_places (query_view query.now)) }
     ensures { slice_get (placed.having_places (query_view query.now)) at ≡
-        Some (place_view result.0, view result.1.now) }
+        Some (place_view result.0, result.1.now) }
 {
     match &query.having {
         Some(having) => {
@@ -83,12 +80,12 @@ fn having_place<'a>(query: &'a Query, names: &Names, at: usize) -> (Place, &'a E
 }
 
 /// What stands at a place from the group keys on.
-fn key_place<'a>(query: &'a Query, names: &Names, at: usize) -> (Place, &'a Expr)
+fn key_place<'a>(query: &'a Query, names: &Names, at: usize) -> (Place, &'a Operand)
     requires within { placed.IsWithin (query_view query.now) }
     requires names { names.now ≡ named.names (outs_view query.now.outputs) }
     requires at { at < length (placed.key_places (query_view query.now)) }
     ensures { slice_get (placed.key_places (query_view query.now)) at ≡
-        Some (place_view result.0, view result.1.now) }
+        Some (place_view result.0, result.1.now) }
 {
     let count = query.keys.len();
     if at < count {
@@ -99,12 +96,12 @@ fn key_place<'a>(query: &'a Query, names: &Names, at: usize) -> (Place, &'a Expr
 }
 
 /// What stands at a place from WHERE on.
-fn where_place<'a>(query: &'a Query, names: &Names, at: usize) -> (Place, &'a Expr)
+fn where_place<'a>(query: &'a Query, names: &Names, at: usize) -> (Place, &'a Operand)
     requires within { placed.IsWithin (query_view query.now) }
     requires names { names.now ≡ named.names (outs_view query.now.outputs) }
     requires at { at < length (placed.where_places (query_view query.now)) }
     ensures { slice_get (placed.where_places (query_view query.now)) at ≡
-        Some (place_view result.0, view result.1.now) }
+        Some (place_view result.0, result.1.now) }
 {
     match &query.filter {
         Some(filter) => {
@@ -119,12 +116,12 @@ fn where_place<'a>(query: &'a Query, names: &Names, at: usize) -> (Place, &'a Ex
 }
 
 /// What stands at a place of the query, counted from 0 in the order of the text. An order key is what it stands for.
-pub(crate) fn place_at<'a>(query: &'a Query, names: &Names, at: usize) -> (Place, &'a Expr)
+pub(crate) fn place_at<'a>(query: &'a Query, names: &Names, at: usize) -> (Place, &'a Operand)
     requires within { placed.IsWithin (query_view query.now) }
     requires names { names.now ≡ named.names (outs_view query.now.outputs) }
     requires at { at < length (spec.places (query_view query.now)) }
     ensures { slice_get (spec.places (query_view query.now)) at ≡
-        Some (place_view result.0, view result.1.now) }
+        Some (place_view result.0, result.1.now) }
 {
     let count = output_count(&query.outputs);
     if at < count {
@@ -135,8 +132,8 @@ pub(crate) fn place_at<'a>(query: &'a Query, names: &Names, at: usize) -> (Place
 }
 
 /// How many expressions stand where one may be absent.
-fn count_of(option: &Option<Expr>) -> usize
-    ensures count { (at : Site) → length (spec.alone at (option_map view option.now)) ≡ result }
+fn count_of(option: &Option<Operand>) -> usize
+    ensures count { (at : Site) → length (spec.alone at option.now) ≡ result }
     ensures one { result ≤ 1 }
 {
     match option {
@@ -157,7 +154,7 @@ pub(crate) fn place_count(query: &Query) -> usize
 }
 
 /// What is asked of an expression at its place.
-#[derive(Clone, Copy, Debug, PartialEq, Eq)]
+#[derive(Clone, Copy)]
 pub(crate) enum Rule {
     /// Whether a path has too many steps.
     Steps,
@@ -185,8 +182,8 @@ fn is_of_rows(place: Place) -> bool
 }
 
 /// Whether the expression at the place is so.
-pub(crate) fn is_so(rule: Rule, keys: &Exprs, place: Place, expr: &Expr) -> bool
-    ensures { result ≡ placed.test_of rule keys.now (place_view place, view expr.now) }
+pub(crate) fn is_so(rule: Rule, keys: &Exprs, place: Place, expr: &Operand) -> bool
+    ensures { result ≡ placed.test_of rule keys.now (place_view place, expr.now) }
 {
     match rule {
         Rule::Steps => has_part(Asked::LongPath, keys, expr),

@@ -1,5 +1,6 @@
-ghost use Rattle.std.specs.Prelude.{◌≡◌, IfSome, IfNone};
+ghost use Rattle.std.specs.Prelude.{◌≡◌, None, IfSome, IfNone};
 ghost use Rattle.std.specs.Option.{option_map};
+ghost use Rattle.tree_meaning.specs.WellFormed.{IsWellFormed};
 ghost use Rattle.check_meaning.specs.Aggregates as aggs;
 ghost use Rattle.check_meaning.specs.Names as named;
 ghost use Rattle.check_meaning.specs.Tests as tests;
@@ -7,9 +8,10 @@ ghost use Rattle.check_meaning.specs.Verdict as verdict;
 ghost use Rattle.query_tree.specs.Queries.{outs_view, query_view};
 ghost use Rattle.query_check.specs.Faults.{place_view, IsFirst};
 ghost use Rattle.query_check.specs.Placed as placed;
-ghost use Rattle.query_check.specs.Checks.{Checks};
+ghost use Rattle.query_check.specs.Checks.{Checks, Examines};
 
 use crate::fault::{CheckFault, Place};
+use crate::findings::Findings;
 use crate::firsts::{
     aggregates, first_no_output, first_place, first_same_name, is_grouped, passed_count,
     passed_limit,
@@ -20,13 +22,11 @@ use query_tree::{Exprs, Outputs, Query};
 use std::alloc::Global;
 use std::marker::Model;
 
-/// An accepted query, seen as the query.
+/// An accepted query, which is well formed, seen as the query.
 #[derive(Drop)]
 pub struct Checked {
     query: Query,
-    names: Names,
-    found: Exprs,
-    grouped: bool,
+    findings: Findings,
 }
 
 impl Model for Checked {
@@ -42,13 +42,14 @@ impl Model for Checked {
 
     ghost view = { λ c. query_view c.query };
 
-    ghost invariant = { λ c. IsAccepted (query_view c.query) c.names c.found c.grouped };
+    ghost invariant = { λ c. IsAccepted (query_view c.query) c.findings };
 }
 
 impl Checked {
     /// The query.
     pub fn query(&self) -> &Query
-        ensures { query_view result.now ≡ self.now }
+        ensures is { query_view result.now ≡ self.now }
+        ensures formed { IsWellFormed self.now }
     {
         &self.query
     }
@@ -57,60 +58,58 @@ impl Checked {
     pub fn grouped(&self) -> bool
         ensures { result ≡ aggs.is_grouped self.now }
     {
-        self.grouped
+        self.findings.grouped
     }
 
     /// The names of its outputs, in their order; `*` has none.
     pub fn names(&self) -> &Names
         ensures { result.now ≡ named.names self.now.outs }
     {
-        &self.names
+        &self.findings.names
     }
 
     /// Its distinct aggregates, in the order in which they stand first.
     pub fn aggs(&self) -> &Exprs
         ensures { result.now ≡ aggs.aggregates self.now }
     {
-        &self.found
+        &self.findings.aggregates
     }
 
-    /// Tells what holds of every accepted query: it has no fault.
+    /// Tells what holds of every accepted query: it is well formed and has no fault.
     pub fn know(&self)
-        ensures { verdict.fault_of self.now ≡ None }
+        ensures formed { IsWellFormed self.now }
+        ensures no_fault { verdict.fault_of self.now ≡ None }
     {
         let _ = &self.query;
     }
 }
 
-/// The first place that depends on single rows of a group, where the query is grouped.
-fn not_grouped(query: &Query, names: &Names, grouped: bool) -> Option<Place>
-    requires within { placed.IsWithin (query_view query.now) }
-    requires names { names.now ≡ named.names (outs_view query.now.outputs) }
-    requires grouped { grouped ≡ aggs.is_grouped (query_view query.now) }
-    ensures { option_map place_view result ≡ verdict.in_groups (query_view query.now)
-        (verdict.first_not_grouped (query_view query.now) (outs_view query.now.outputs)) }
+/// The query, accepted, or its first fault.
+pub fn check(alloc: Global, query: Query) -> Result<Checked, CheckFault>
+    requires { IsWellFormed (query_view query) }
+    ensures { Checks (query_view query) result }
 {
-    if !grouped {
-        return None;
-    }
-    match &query.outputs {
-        Outputs::Star => Some(Place::Output(1)),
-        Outputs::Named(_) => first_place(Rule::NotGrouped, query, names),
-    }
+    let findings = examine(alloc, &query)?;
+    Ok(Checked { query, findings })
 }
 
-/// The first place with a form that isn't computed over groups, where the query is grouped.
-fn over_groups(query: &Query, names: &Names, grouped: bool) -> Option<Place>
-    requires within { placed.IsWithin (query_view query.now) }
-    requires names { names.now ≡ named.names (outs_view query.now.outputs) }
-    requires grouped { grouped ≡ aggs.is_grouped (query_view query.now) }
-    ensures { option_map place_view result ≡ verdict.in_groups (query_view query.now)
-        (verdict.first_place (tests.is_over_groups query.now.keys) (query_view query.now)) }
+/// What is found out about a query without a fault, or its first fault.
+fn examine(alloc: Global, query: &Query) -> Result<Findings, CheckFault>
+    ensures { Examines (query_view query.now) result }
 {
-    if grouped {
-        first_place(Rule::OverGroups, query, names)
-    } else {
-        None
+    if let Some(limit) = passed_count(query) {
+        return Err(CheckFault::TooMany(limit));
+    }
+    let names = names_of(alloc, &query.outputs)?;
+    let aggregates = aggregates(alloc, query, &names)?;
+    let grouped = is_grouped(query, &names);
+    match first_fault(query, &names, &aggregates, grouped) {
+        Some(fault) => Err(fault),
+        None => Ok(Findings {
+            names,
+            aggregates,
+            grouped,
+        }),
     }
 }
 
@@ -144,23 +143,34 @@ fn first_fault(query: &Query, names: &Names, found: &Exprs, grouped: bool) -> Op
     }
 }
 
-/// The query, accepted, or its first fault.
-pub fn check(alloc: Global, query: Query) -> Result<Checked, CheckFault>
-    ensures { Checks (query_view query) result }
+/// The first place that depends on single rows of a group, where the query is grouped.
+fn not_grouped(query: &Query, names: &Names, grouped: bool) -> Option<Place>
+    requires within { placed.IsWithin (query_view query.now) }
+    requires names { names.now ≡ named.names (outs_view query.now.outputs) }
+    requires grouped { grouped ≡ aggs.is_grouped (query_view query.now) }
+    ensures { option_map place_view result ≡ verdict.in_groups (query_view query.now)
+        (verdict.first_not_grouped (query_view query.now) (outs_view query.now.outputs)) }
 {
-    if let Some(limit) = passed_count(&query) {
-        return Err(CheckFault::TooMany(limit));
+    if !grouped {
+        return None;
     }
-    let names = names_of(alloc, &query.outputs)?;
-    let found = aggregates(alloc, &query, &names)?;
-    let grouped = is_grouped(&query, &names);
-    if let Some(fault) = first_fault(&query, &names, &found, grouped) {
-        return Err(fault);
+    match &query.outputs {
+        Outputs::Star => Some(Place::Output(1)),
+        Outputs::Named(_) => first_place(Rule::NotGrouped, query, names),
     }
-    Ok(Checked {
-        query,
-        names,
-        found,
-        grouped,
-    })
+}
+
+/// The first place with a form that isn't computed over groups, where the query is grouped.
+fn over_groups(query: &Query, names: &Names, grouped: bool) -> Option<Place>
+    requires within { placed.IsWithin (query_view query.now) }
+    requires names { names.now ≡ named.names (outs_view query.now.outputs) }
+    requires grouped { grouped ≡ aggs.is_grouped (query_view query.now) }
+    ensures { option_map place_view result ≡ verdict.in_groups (query_view query.now)
+        (verdict.first_place (tests.is_over_groups query.now.keys) (query_view query.now)) }
+{
+    if grouped {
+        first_place(Rule::OverGroups, query, names)
+    } else {
+        None
+    }
 }

@@ -1,6 +1,6 @@
 -- The pieces of printed queries are UTF-8.
-use Rattle.std.proofs.Common.{◌≡◌, ℕ, suc, ◌+◌, ◌<◌, ◌≤◌, ◌/◌, ◌%◌, ◌^◌, ◌==◌, Bool, true, false, cond, ◌&&◌, nat_lt, List, [], ◌∷◌, ◌++◌, length, get_or, IsUtf8, inl, inr, refl, sym, ap, ◌∙◌, subst, ℤ, pos, negsuc, arith, append-nil, ltb-true}
-use Rattle.std.specs.Prelude.{decimal, unsigned_abs, codes, Result, Ok, Err, OnOk, OnErr}
+use Rattle.std.proofs.Common.{◌≡◌, ℕ, suc, ◌<◌, ◌≤◌, ◌/◌, ◌%◌, ◌^◌, ◌==◌, Bool, true, false, cond, ◌&&◌, nat_lt, List, [], ◌∷◌, ◌++◌, length, get_or, IsUtf8, inl, inr, refl, sym, ap, subst, ℤ, pos, negsuc, arith, append-nil, ltb-true}
+use Rattle.std.specs.Prelude.{decimal, codes, Result, Ok, Err, OnOk, OnErr}
 use Rattle.std.proofs.lemmas.Bool.{and_parts, cases_lt}
 use Rattle.std.proofs.lemmas.Bool.Decides.{nat_tests}
 use Rattle.std.proofs.lemmas.Fmt.{IsAscii-decimal_wide}
@@ -9,7 +9,7 @@ use lib.Utf8.{scalar, scalars, encode, encodes, low_scalar}
 use Rattle.value_meaning.specs.Val.{Val}
 use Rattle.value_meaning.specs.Val as val
 use Rattle.value_meaning.specs.Sound.{IsSound}
-use Rattle.time_meaning.specs.Printed.{digit, two, four, six, to_second, after_second, day_text, day_at, micros_at, time_text}
+use Rattle.time_meaning.specs.Printed.{digit, two, four, six, to_second, after_second, micros_at, time_text}
 use Rattle.tree_meaning.specs.WellFormed.{IsLiteral}
 use Rattle.print_meaning.specs.Pieces.{doubled, in_quotes, spelling}
 use Rattle.print_meaning.specs.Texts.{literal_text}

@@ -1,6 +1,5 @@
 use Rattle.std.proofs.Common.{◌≡◌, ℕ, ◌+◌, ◌/◌, ◌<◌, ◌≤◌, List, ◌++◌, length, Ok, Err, refl, sym, ap, subst, ◌∙◌, arith}
 use Rattle.std.specs.List.{filter}
-use Rattle.value_meaning.specs.Val.{Val}
 use Rattle.block_meaning.specs.Tables.{Table}
 use Rattle.answer_meaning.specs.Lines.{print}
 use Rattle.program_meaning.specs.Jobs.{Job}
@@ -11,7 +10,7 @@ use Rattle.block_lines.specs.declared.fault.LinesFault.TheVariants.{WriteFault, 
 use Rattle.block_lines.specs.RowLines.{keeps, job_outputs}
 use Rattle.block_lines.specs.Underway.{IsUnderway}
 use Rattle.block_lines.proofs.Sink.{underway_at_first, cut_short, left_off, all_taken}
-use Rattle.block_lines.proofs.Simulated.{writes_answer, kept_are}
+use Rattle.block_lines.proofs.Simulated.{writes_answer, kept_many}
 use Rattle.block_lines.proofs.ChunkByChunk.{chunk_made, chunk_filled, none_left, last_put, counts_split, kept_few, all_counted, counted_more, counted_most, counted_whole, still_bound}
 use Rattle.block_lines.proofs.writing.write_lines.Goals as goal
 
@@ -101,13 +100,13 @@ pub returns-clause-lines : goal.returns-clause-lines
 returns-clause-lines g c q simulates =
     let end : length c.args.block.now.1 ≤ c.loop-first.first = omega (arith, c.rows.ensures, c.loop-first-test.false) in
     all_counted c.args.frame.now.job c.loop-first.first c.loop-first.count c.args.block.now.1 end c.loop-first.invariant.lines
-    ∙ ap (λ (l : List Val). length l) (kept_are c.args.frame.now.job q simulates c.args.block.now.1)
+    ∙ kept_many c.args.frame.now.job q simulates c.args.block.now.1
 
 pub returns-clause-kept : goal.returns-clause-kept
 returns-clause-kept g c q simulates =
     let end : length c.args.block.now.1 ≤ c.loop-first.first = omega (arith, c.rows.ensures, c.loop-first-test.false) in
     let count = all_counted c.args.frame.now.job c.loop-first.first c.loop-first.count c.args.block.now.1 end c.loop-first.invariant.lines
-    ∙ ap (λ (l : List Val). length l) (kept_are c.args.frame.now.job q simulates c.args.block.now.1) in
+    ∙ kept_many c.args.frame.now.job q simulates c.args.block.now.1 in
     let most = c.loop-first.invariant.kept_most (omega (arith, end, c.know.ensures.some)) in
     counted_whole c.loop-first.frame.kept c.args.frame.now.kept c.loop-first.count most c.loop-first.invariant.kept ∙ ap (counted c.args.frame.now.kept) count
 

@@ -1,9 +1,6 @@
-use Rattle.std.proofs.Common.{◌≡◌, sym, ◌∙◌, ap}
+use Rattle.std.proofs.Common.{sym, ◌∙◌, ap}
 use Rattle.std.specs.Prelude.{unwrap_or}
 use Rattle.value_meaning.specs.Val.{missing}
-use Rattle.snel_values.specs.View.{view}
-use Rattle.query_tree.specs.View.{step_view}
-use Rattle.eval_meaning.specs.Paths.{step_of}
 use Rattle.eval_row.proofs.Walking.{name_step, item_step}
 use Rattle.eval_row.proofs.paths.step_to.Goals as goal
 

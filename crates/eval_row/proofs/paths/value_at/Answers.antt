@@ -1,4 +1,4 @@
-use Rattle.std.proofs.Common.{◌≡◌, ◌+◌, map, drop, sym, ◌∙◌, ap}
+use Rattle.std.proofs.Common.{◌+◌, map, drop, sym, ◌∙◌, ap}
 use Rattle.snel_values.specs.View.{view}
 use Rattle.query_tree.specs.View.{step_view}
 use Rattle.eval_meaning.specs.Paths.{path_of}

@@ -1,5 +1,5 @@
 use Rattle.std.proofs.Common.{◌≡◌, ℕ, ◌<◌, ◌≤◌, length, slice_index_or, vec_capacity}
-use Rattle.program_meaning.specs.Instructions.{all}
+use Rattle.program_meaning.specs.Instructions as instr
 use Rattle.std.specs.Prelude.{map}
 use Rattle.lane_ssa.specs.Bound.{IsSymbolOf, no_symbol}
 use Rattle.lane_ssa.specs.Views.{instr_view}
@@ -9,5 +9,5 @@ abbrev pub invariant-loop-instr : goal.invariant-loop-instr
 invariant-loop-instr l = record {
   long : length l.symbols.items ≡ l.instr-index;
   room : length l.instrs ≤ vec_capacity l.symbols;
-  symbol : (k : ℕ) → k < l.instr-index → IsSymbolOf l.table (slice_index_or (map instr_view l.instrs) k all) (slice_index_or l.symbols.items k no_symbol);
+  symbol : (k : ℕ) → k < l.instr-index → IsSymbolOf l.table (slice_index_or (map instr_view l.instrs) k instr.all) (slice_index_or l.symbols.items k no_symbol);
 }

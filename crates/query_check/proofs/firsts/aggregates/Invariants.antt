@@ -1,7 +1,7 @@
 use Rattle.std.proofs.Common.{◌≡◌, drop, []}
 use Rattle.query_tree.specs.Queries.{query_view}
 use Rattle.check_meaning.specs.Places.{places}
-use Rattle.query_check.proofs.Walking.{gathered}
+use Rattle.query_walk.proofs.Walking.{gathered}
 use Rattle.query_check.proofs.AllPlaces.{all_parts}
 use Rattle.query_check.proofs.firsts.aggregates.Given as goal
 

@@ -1,10 +1,10 @@
-use Rattle.std.proofs.Common.{◌≡◌, ◌∙◌, ◌<◌, ◌≤◌, Bool, ℕ, List, sym, arith, length, map}
+use Rattle.std.proofs.Common.{◌∙◌, Bool, ℕ, sym, arith, map}
 use Rattle.std.proofs.lemmas.List.{length-map}
 use Rattle.tree_meaning.specs.Tree.{Ex}
 use Rattle.query_tree.specs.Parts.{key_view}
-use Rattle.query_tree.specs.Queries.{outs_view, query_view}
+use Rattle.query_tree.specs.Queries.{outs_view}
 use Rattle.check_meaning.specs.Verdict.{is_no_number, first_no_output}
-use Rattle.query_check.proofs.Listed.{mapped_at}
+use Rattle.query_walk.proofs.Listed.{mapped_at}
 use Rattle.query_check.proofs.FirstNumber.{number_here, number_next, number_end}
 use Rattle.query_check.proofs.firsts.first_no_output.Goals as goal
 

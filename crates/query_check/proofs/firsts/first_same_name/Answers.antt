@@ -1,4 +1,4 @@
-use Rattle.std.proofs.Common.{◌≡◌, ◌∙◌, ◌<◌, sym, arith, length}
+use Rattle.std.proofs.Common.{arith}
 use Rattle.query_check.proofs.FirstNumber.{is_repeat, repeat_here, repeat_next, number_end}
 use Rattle.query_check.proofs.firsts.first_same_name.Goals as goal
 

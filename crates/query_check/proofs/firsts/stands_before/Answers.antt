@@ -1,7 +1,7 @@
 use Rattle.std.proofs.Common.{◌≡◌, ◌∙◌, sym, nat_eq, true, false, take, arith, ap, List, ℕ, Some}
 use Rattle.std.specs.Str.{bytes_eq}
 use Rattle.std.specs.Cmp.Lexicographic.{pointwise}
-use Rattle.query_check.proofs.Searching.{any_here, any_next, any_end}
+use Rattle.query_walk.proofs.Searching.{any_here, any_next, any_end}
 use Rattle.query_check.proofs.Limits.{get_taken, length_taken, named_as}
 use Rattle.query_check.proofs.firsts.stands_before.Goals as goal
 

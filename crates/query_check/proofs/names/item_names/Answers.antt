@@ -1,12 +1,12 @@
-use Rattle.std.proofs.Common.{◌≡◌, ◌∙◌, ◌+◌, ◌≤◌, List, ℕ, map, length, sym, arith, ap}
+use Rattle.std.proofs.Common.{◌≡◌, ◌∙◌, ◌+◌, ◌≤◌, List, ℕ, map, length, arith, ap}
 use Rattle.std.specs.List.{enumerate_from}
 use Rattle.std.specs.Prelude.{Option}
 use Rattle.tree_meaning.specs.Tree.{Ex}
 use Rattle.query_tree.specs.Parts.{item_view}
 use Rattle.check_meaning.specs.Names.{output_name}
-use Rattle.query_check.proofs.Listed.{mapped_at, whole}
+use Rattle.query_walk.proofs.Listed.{mapped_at, whole}
 use Rattle.query_check.proofs.Numbered.{numbered_at, length_mapped}
-use Rattle.query_check.proofs.Smaller.{taken_more}
+use Rattle.query_walk.proofs.Smaller.{taken_more}
 use Rattle.query_check.proofs.names.item_names.Goals as goal
 
 abbrev named : ℕ × (Ex × Option (List ℕ)) → List ℕ

@@ -1,7 +1,7 @@
 use Rattle.std.proofs.Common.{◌≡◌, sym, nat_eq, true, false}
 use Rattle.std.specs.Str.{bytes_eq}
 use Rattle.std.specs.Cmp.Lexicographic.{pointwise}
-use Rattle.query_check.proofs.Searching.{position_here, position_next}
+use Rattle.query_walk.proofs.Searching.{position_here, position_next}
 use Rattle.query_check.proofs.order.name_place.Goals as goal
 
 pub returns-then-eq : goal.returns-then-eq

@@ -1,6 +1,6 @@
 use Rattle.std.proofs.Common.{◌∙◌, to_z, of_z, to_z-of_z}
 use mir.Syntax.{w128}
-use Rattle.sql_tree.specs.Queries.{outs_view}
+use Rattle.query_tree.specs.Queries.{outs_view}
 use Rattle.query_check.proofs.Ordered.{no_output, some_output}
 use Rattle.query_check.proofs.order.output_at.Goals as goal
 

@@ -1,7 +1,5 @@
-use Rattle.std.proofs.Common.{◌≡◌, ◌∙◌, ap, refl, Some}
+use Rattle.std.proofs.Common.{◌∙◌, ap}
 use Rattle.std.specs.Prelude.{slice_get}
-use Rattle.std.specs.Option.{option_map}
-use Rattle.query_tree.specs.View.{view}
 use Rattle.query_tree.specs.Queries.{query_view}
 use Rattle.check_meaning.specs.Place.{where_test}
 use Rattle.query_check.specs.Placed.{where_places, key_places}
@@ -10,20 +8,20 @@ use Rattle.query_check.proofs.places.where_place.Goals as goal
 
 pub key_place-requires-clause-at : goal.key_place-requires-clause-at
 unfolding where_places
-key_place-requires-clause-at c = alone_room where_test (query_view c.args.query.now).filter (key_places (query_view c.args.query.now)) (view c.in-Some.filter) c.args.at (ap (option_map view) c.in-Some.is) c.if-at-eq0.false c.requires.at
+key_place-requires-clause-at c = alone_room where_test (query_view c.args.query.now).filter (key_places (query_view c.args.query.now)) c.in-Some.filter c.args.at c.in-Some.is c.if-at-eq0.false c.requires.at
 
 pub key_place-requires-in-None-clause-at : goal.key_place-requires-in-None-clause-at
 unfolding where_places
-key_place-requires-in-None-clause-at c = alone_none_room where_test (query_view c.args.query.now).filter (key_places (query_view c.args.query.now)) c.args.at (ap (option_map view) c.in-None.is) c.requires.at
+key_place-requires-in-None-clause-at c = alone_none_room where_test (query_view c.args.query.now).filter (key_places (query_view c.args.query.now)) c.args.at c.in-None.is c.requires.at
 
 pub returns-then-at-eq0 : goal.returns-then-at-eq0
 unfolding where_places
-returns-then-at-eq0 c = ap (slice_get (where_places (query_view c.args.query.now))) c.if-at-eq0.true ∙ alone_here where_test (query_view c.args.query.now).filter (key_places (query_view c.args.query.now)) (view c.in-Some.filter) (ap (option_map view) c.in-Some.is)
+returns-then-at-eq0 c = ap (slice_get (where_places (query_view c.args.query.now))) c.if-at-eq0.true ∙ alone_here where_test (query_view c.args.query.now).filter (key_places (query_view c.args.query.now)) c.in-Some.filter c.in-Some.is
 
 pub returns-else-at-eq0 : goal.returns-else-at-eq0
 unfolding where_places
-returns-else-at-eq0 c = alone_later where_test (query_view c.args.query.now).filter (key_places (query_view c.args.query.now)) (view c.in-Some.filter) c.args.at (ap (option_map view) c.in-Some.is) c.if-at-eq0.false ∙ c.key_place.ensures
+returns-else-at-eq0 c = alone_later where_test (query_view c.args.query.now).filter (key_places (query_view c.args.query.now)) c.in-Some.filter c.args.at c.in-Some.is c.if-at-eq0.false ∙ c.key_place.ensures
 
 pub returns-in-None : goal.returns-in-None
 unfolding where_places
-returns-in-None c = alone_none where_test (query_view c.args.query.now).filter (key_places (query_view c.args.query.now)) c.args.at (ap (option_map view) c.in-None.is) ∙ c.key_place-in-None.ensures
+returns-in-None c = alone_none where_test (query_view c.args.query.now).filter (key_places (query_view c.args.query.now)) c.args.at c.in-None.is ∙ c.key_place-in-None.ensures

@@ -1,5 +1,5 @@
 -- The date that jiff gives for the day number is that of the day number.
-use Rattle.std.proofs.Common.{◌≡◌, ◌≤◌, arith, to_z, of_z, to_z-of_z, w16, w64, ◌∙◌, refl}
+use Rattle.std.proofs.Common.{◌≡◌, arith, to_z, of_z, to_z-of_z, w16, w64, ◌∙◌, refl}
 use Rattle.std.specs.Prelude.{unsigned_abs}
 use Rattle.jiff_core.specs.Calendar.{days_from_civil}
 use Rattle.jiff_core.proofs.SignedLemmas.{signed_arith, signed_casts}

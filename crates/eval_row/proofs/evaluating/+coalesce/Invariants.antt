@@ -1,5 +1,0 @@
-use Rattle.std.proofs.Common.{length}
-use Rattle.eval_row.proofs.evaluating.+coalesce.Given as goal
-
-abbrev pub decreases-coalesce : goal.decreases-coalesce
-decreases-coalesce l = length l.values.now
