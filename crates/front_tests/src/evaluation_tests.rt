@@ -82,7 +82,7 @@ fn first_value(alloc: Global, query: &Query, at: usize) -> Option<Value> {
     let expr = first_output(query)?;
     match row(alloc, at) {
         Ok(row) => {
-            let value = eval_row(alloc, expr.get(), &row).ok();
+            let value = eval_row(alloc, expr, &row, &Value::Missing).ok();
             drop(row);
             value
         }

@@ -107,7 +107,10 @@ fn is_printed_in_where(alloc: Global, expression: &str, wanted: &str) -> bool {
 #[test]
 fn expressions_are_printed_in_one_way(rt: HostRuntime) {
     for (expression, wanted) in &EXPRESSIONS {
-        assert!(rt; is_printed_in_where(rt.alloc(), expression, wanted), "{expression}");
+        assert!(rt;
+            is_printed_in_where(rt.alloc(), expression, wanted),
+            "{expression}"
+        );
     }
 }
 

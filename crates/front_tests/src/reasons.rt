@@ -51,7 +51,11 @@ fn of_query(fault: CheckFault) -> Words {
         CheckFault::Nested(place) => of_place(place, " has a misplaced aggregate"),
         CheckFault::NotGrouped(place) => of_place(place, " is not grouped"),
         CheckFault::OverGroups(place) => of_place(place, " is not allowed over groups"),
-        CheckFault::SameName(output) => numbered("output ", i128::from(output), " has an earlier name"),
+        CheckFault::SameName(output) => numbered(
+            "output ",
+            i128::from(output),
+            " has an earlier name",
+        ),
         CheckFault::NoSuchOrder(key) => numbered("order key ", i128::from(key), " has no output"),
         CheckFault::OutOfMemory => plain("out of memory"),
     }
