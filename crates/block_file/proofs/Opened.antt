@@ -3,6 +3,7 @@ use Rattle.std.proofs.Common.{◌≡◌, ℕ, ◌+◌, ◌^◌, ◌≤◌, false
 use Rattle.std.proofs.lemmas.List.{length-map}
 use Rattle.std.proofs.lemmas.Bool.{le-ltb}
 use Rattle.value_meaning.specs.Val.{Val}
+use Rattle.block_meaning.specs.declared.TheConstants.{MOST_BLOCK_BYTES}
 use Rattle.block_meaning.specs.Tables.{Table}
 use Rattle.block_meaning.specs.Blocks.{IsTable, IsBlock, IsDamaged, behind_marker, table_at, rows_in, block_in}
 use Rattle.block_meaning.specs.Laws.{HasFront}
@@ -13,14 +14,14 @@ use Rattle.ion_cells.specs.declared.cell.Cell.{Cell}
 use Rattle.ion_cells.specs.Shown.{shown}
 use Rattle.block_file.specs.Rows.{AreRowsOf, NoRowsOf}
 
-reads_block : (table : Table) (rows : List Val) (bytes rest left : List ℕ) → length bytes ≤ 2 ^ 20 → Some rest ≡ behind_marker bytes → table_at rest ≡ Some (table, left) → rows_in table left ≡ Some rows → block_in bytes ≡ Some (table, rows)
+reads_block : (table : Table) (rows : List Val) (bytes rest left : List ℕ) → length bytes ≤ MOST_BLOCK_BYTES → Some rest ≡ behind_marker bytes → table_at rest ≡ Some (table, left) → rows_in table left ≡ Some rows → block_in bytes ≡ Some (table, rows)
 unfolding block_in
 reads_block table rows bytes rest left short marked read rowed =
-    let fits : ltb (2 ^ 20) (length bytes) ≡ false = le-ltb _ _ short in
+    let fits : ltb MOST_BLOCK_BYTES (length bytes) ≡ false = le-ltb _ _ short in
     let behind = sym marked in
     rw (fits, behind, read, rowed) refl
 
-pub opened : (table t : Table) (r : List Val) (cells : List Cell) (bytes rest left : List ℕ) (count : ℕ) → length bytes ≤ 2 ^ 20 → Some rest ≡ behind_marker bytes → table_at rest ≡ Some (table, left) → AreRowsOf table left count cells → t ≡ table → r ≡ map (shown table) cells → IsBlock t r bytes × (length r ≡ count)
+pub opened : (table t : Table) (r : List Val) (cells : List Cell) (bytes rest left : List ℕ) (count : ℕ) → length bytes ≤ MOST_BLOCK_BYTES → Some rest ≡ behind_marker bytes → table_at rest ≡ Some (table, left) → AreRowsOf table left count cells → t ≡ table → r ≡ map (shown table) cells → IsBlock t r bytes × (length r ≡ count)
 opened table t r cells bytes rest left count short marked read are e f =
     let block = (blocks_read table (map (shown table) cells) bytes).0 (reads_block table (map (shown table) cells) bytes rest left short marked read are.reads) in
     rw (e, f) (block, length-map cells (shown table) ∙ are.long)

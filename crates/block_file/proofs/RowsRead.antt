@@ -6,6 +6,7 @@ use Rattle.std.proofs.lemmas.List.{append-nil, map-append, length-map}
 use Rattle.std.proofs.lemmas.Bool.{le-ltb}
 use Rattle.std.proofs.lemmas.Bool.Decides.{nat_tests}
 use Rattle.value_meaning.specs.Val.{Val, Vals, no_vals, val, items}
+use Rattle.block_meaning.specs.declared.TheConstants.{MOST_BLOCK_ROWS}
 use Rattle.block_meaning.specs.Tables.{Table}
 use Rattle.block_meaning.specs.CellReading.{cells_by, cell_to}
 use Rattle.block_meaning.specs.Blocks.{is_struct, all_structs, as_rows, rows_in}
@@ -70,17 +71,17 @@ structs_all : (table : Table) (cells : List Cell) → AreRowCells table cells �
 structs_all table [] h = refl
 structs_all table (c ∷ cells) h = rw (h.0.1, structs_all table cells h.1) refl
 
-as_rows_are : (vs : List Val) → 1 ≤ length vs → length vs ≤ 65_536 → all_structs vs ≡ true → as_rows vs ≡ Some vs
+as_rows_are : (vs : List Val) → 1 ≤ length vs → length vs ≤ MOST_BLOCK_ROWS → all_structs vs ≡ true → as_rows vs ≡ Some vs
 as_rows_are vs some few all =
     let a : eqb (length vs) 0 ≡ false = grind (arith, nat_tests) in
-    let b : ltb 65_536 (length vs) ≡ false = le-ltb _ _ few in
+    let b : ltb MOST_BLOCK_ROWS (length vs) ≡ false = le-ltb _ _ few in
     rw (a, b, all) refl
 
 no_cells_left : (table : Table) (rest : List ℕ) → length rest ≡ 0 → all_cells table rest ≡ Some no_vals
 no_cells_left table [] e = refl
 no_cells_left table (b ∷ bs) e = absurd (omega arith)
 
-pub walk_end : (table : Table) (bytes : List ℕ) (cells : List Cell) (rest : List ℕ) (count : ℕ) → Walked table bytes cells rest → length rest ≡ 0 → length cells ≡ count → 1 ≤ count → count ≤ 65_536 → AreRowsOf table bytes count cells
+pub walk_end : (table : Table) (bytes : List ℕ) (cells : List Cell) (rest : List ℕ) (count : ℕ) → Walked table bytes cells rest → length rest ≡ 0 → length cells ≡ count → 1 ≤ count → count ≤ MOST_BLOCK_ROWS → AreRowsOf table bytes count cells
 unfolding rows_in
 walk_end table bytes cells rest count w e n some few =
     let vs = map (shown table) cells in
@@ -98,7 +99,7 @@ shown_after (v ∷ vs) ws e = shown_after vs ws (and_true (is_struct v) (all_str
 
 as_rows_is : (vs rows : List Val) → as_rows vs ≡ Some rows → (vs ≡ rows) × (all_structs vs ≡ true)
 as_rows_is vs rows e =
-    elim (chosen (eqb (length vs) 0 || ltb 65_536 (length vs)) _ _ _ e) [
+    elim (chosen (eqb (length vs) 0 || ltb MOST_BLOCK_ROWS (length vs)) _ _ _ e) [
       | Rattle.std.proofs.Common.inl a ↦ absurd (none_is rows a.1)
       | Rattle.std.proofs.Common.inr a ↦ elim (chosen (all_structs vs) _ _ _ a.1) [
         | Rattle.std.proofs.Common.inl b ↦ (some_is _ _ b.1, b.0)

@@ -1,6 +1,7 @@
 -- The cells of a block's rows, and where one of them stands.
 use Rattle.std.specs.Prelude.{◌≡◌, ℕ, ◌+◌, ◌≤◌, true, List, [], ◌∷◌, length, map, drop, Some}
 use Rattle.value_meaning.specs.Val.{Val}
+use Rattle.block_meaning.specs.declared.TheConstants.{MOST_BLOCK_ROWS}
 use Rattle.block_meaning.specs.Tables.{Table}
 use Rattle.block_meaning.specs.CellReading.{cell_to}
 use Rattle.block_meaning.specs.Blocks.{is_struct, rows_in}
@@ -12,11 +13,11 @@ abbrev pub AreRowCells : Table → List Cell → Type 0
 AreRowCells table [] = Unit {0}
 AreRowCells table (c ∷ cs) = (Fits table c × (is_struct (shown table c) ≡ true)) × AreRowCells table cs
 
--- 1 to 65,536 of them
+-- as many of them as a block may have
 pub record AreBlockCells (table : Table) (cells : List Cell) : Type 0 where
   pub rows : AreRowCells table cells
   pub some : 1 ≤ length cells
-  pub few : length cells ≤ 65_536
+  pub few : length cells ≤ MOST_BLOCK_ROWS
 
 -- the cell is a row that stands at the place
 pub record IsRowAt (table : Table) (bytes : List ℕ) (at : ℕ) (cell : Cell) : Type 0 where

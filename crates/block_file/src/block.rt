@@ -1,6 +1,7 @@
 ghost use Rattle.std.specs.Prelude.{◌≡◌, ◌<◌, ◌≤◌, length, take};
 
 use crate::chunk::Chunk;
+use block_meaning::MOST_BLOCK_ROWS;
 use ion_cells::Cell;
 use ion_symtab::SymTab;
 use std::marker::Model;
@@ -46,7 +47,7 @@ impl<'b> Block<'b> {
         Block { table, rows }
     }
 
-    /// How many rows the block has, from 1 to 65,536.
+    /// How many rows the block has, from 1 to `MOST_BLOCK_ROWS`.
     pub fn rows(&self) -> u32
         ensures { result ≡ length self.now.1 }
     {
@@ -74,7 +75,7 @@ impl<'b> Block<'b> {
     pub fn know(&self)
         ensures structs { AreRows self.now.1 }
         ensures some { 1 ≤ length self.now.1 }
-        ensures few { length self.now.1 ≤ 65_536 }
+        ensures few { length self.now.1 ≤ MOST_BLOCK_ROWS }
     {
         let _ = &self.rows;
     }

@@ -6,6 +6,7 @@ ghost use Rattle.block_meaning.specs.Blocks.{IsBlock, IsDamaged};
 use crate::block::Block;
 use crate::fault::BlockFault;
 use crate::rows::rows_at;
+use block_meaning::{MOST_BLOCK_BYTES, MOST_BLOCK_ROWS};
 use ion_symtab::{TabFault, read};
 use std::alloc::Global;
 
@@ -20,13 +21,13 @@ fn behind_marker(bytes: &[u8]) -> Option<&[u8]>
 }
 
 /// The block of `rows` rows that the bytes are: the marker of Ion 1.0, one symbol table, and the struct cells of the rows,
-/// end to end. A block has 1 to 65,536 rows and at most 1,048,576 bytes. `Damaged` comes exactly where the bytes aren't a
-/// block of that many rows.
+/// end to end. A block has 1 to `MOST_BLOCK_ROWS` rows and at most `MOST_BLOCK_BYTES` bytes. `Damaged` comes exactly where
+/// the bytes aren't a block of that many rows.
 pub fn open_block<'b>(alloc: Global, bytes: &'b [u8], rows: u32) -> Result<Block<'b>, BlockFault>
     ensures rows { IfOk result (λ b. IsBlock b.0 b.1 bytes.now × (length b.1 ≡ rows)) }
     ensures damaged { IsErrOf result BlockFault.Damaged → IsDamaged rows bytes.now }
 {
-    if rows == 0 || rows > 65_536 || bytes.len() > 1_048_576 {
+    if rows == 0 || rows > MOST_BLOCK_ROWS || bytes.len() > MOST_BLOCK_BYTES {
         return Err(BlockFault::Damaged);
     }
     match behind_marker(bytes) {

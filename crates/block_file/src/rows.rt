@@ -5,6 +5,7 @@ ghost use Rattle.ion_cells.specs.Shown.{cell_bytes};
 ghost use Rattle.block_file.specs.Rows.{IsRowAt, NoRowAt, AreRowsOf, NoRowsOf};
 
 use crate::fault::BlockFault;
+use block_meaning::MOST_BLOCK_ROWS;
 use ion_cells::{Cell, Kind, cell_at};
 use std::alloc::Global;
 
@@ -38,7 +39,7 @@ pub(crate) fn rows_at<'b>(
     requires short { length bytes.now < 2 ^ 31 }
     requires within { start ≤ length bytes.now }
     requires some { 1 ≤ count }
-    requires few { count ≤ 65_536 }
+    requires few { count ≤ MOST_BLOCK_ROWS }
     ensures rows { IfOk result (λ v. (table : Table) → HasLast table last → AreRowsOf table (drop start bytes.now) count v.items) }
     ensures damaged { IsErrOf result BlockFault.Damaged → (table : Table) → HasLast table last → NoRowsOf table (drop start bytes.now) count }
 {

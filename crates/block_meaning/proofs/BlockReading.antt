@@ -1,9 +1,10 @@
 -- Reading a block answers exactly the table and the rows of which it is the block.
-use Rattle.std.proofs.Common.{◌≡◌, ℕ, ◌^◌, ◌≤◌, true, false, List, [], ◌∷◌, ◌++◌, length, Some, None, eqb, ltb, refl, sym, ap, ◌∙◌, arith, inl, inr}
+use Rattle.std.proofs.Common.{◌≡◌, ℕ, ◌≤◌, true, false, List, [], ◌∷◌, ◌++◌, length, Some, None, eqb, ltb, refl, sym, ap, ◌∙◌, arith, inl, inr}
 use Rattle.std.specs.Prelude.{◌&&◌, ◌||◌, ◌≢◌}
 use Rattle.std.proofs.lemmas.Bool.{ltb-false, le-ltb}
 use Rattle.std.proofs.lemmas.Bool.Decides.{nat_tests}
 use Rattle.value_meaning.specs.Val.{Val, Vals, vals, items, no_vals, val}
+use Rattle.block_meaning.specs.declared.TheConstants.{MOST_BLOCK_BYTES, MOST_BLOCK_ROWS}
 use Rattle.block_meaning.specs.Tables.{Table}
 use Rattle.block_meaning.specs.Cells.{AreCells}
 use Rattle.block_meaning.specs.CellReading.{cells_by, cell_to}
@@ -12,7 +13,8 @@ use Rattle.block_meaning.specs.Laws.{BlocksAreRead, OneListOfRows, RowsAreSound}
 use Rattle.block_meaning.proofs.Answered.{chosen, some_is, none_is, then_is, map_is, and_true, or_false}
 use Rattle.block_meaning.proofs.NestedReading.{reads_to, cells_take, cells_again}
 use Rattle.block_meaning.proofs.TableReading.{tables_take, tables_again}
-use Rattle.block_meaning.proofs.SoundCells.{AreUtf8, IsSoundTable, cells_sound, cells_times}
+use Rattle.block_meaning.proofs.SoundCells.{AreUtf8, IsSoundTable, cells_sound}
+use Rattle.block_meaning.proofs.StoredCells.{cells_stored}
 
 pub vals-items : (vs : Vals) → vals (items vs) ≡ vs
 vals-items no_vals = refl
@@ -33,16 +35,16 @@ rows_test (v ∷ vs) h = rw (h.0, rows_test vs h.1) refl
 -- 1 to 65,536 structs
 pub record AreBlockRows (rows : List Val) : Type 0 where
   pub some : 1 ≤ length rows
-  pub few : length rows ≤ 65_536
+  pub few : length rows ≤ MOST_BLOCK_ROWS
   pub structs : AreRows rows
 
 as_rows-takes : (vs rows : List Val) → as_rows vs ≡ Some rows → (vs ≡ rows) × AreBlockRows vs
 as_rows-takes vs rows e =
-    elim (chosen (eqb (length vs) 0 || ltb 65_536 (length vs)) _ _ _ e) [
+    elim (chosen (eqb (length vs) 0 || ltb MOST_BLOCK_ROWS (length vs)) _ _ _ e) [
       | inl a ↦ absurd (none_is rows a.1)
       | inr a ↦ elim (chosen (all_structs vs) _ _ _ a.1) [
         | inl b ↦
-            let tests = or_false (eqb (length vs) 0) (ltb 65_536 (length vs)) a.0 in
+            let tests = or_false (eqb (length vs) 0) (ltb MOST_BLOCK_ROWS (length vs)) a.0 in
             let some : 1 ≤ length vs = grind (arith, nat_tests, tests.0) in
             (some_is _ _ b.1, record { some = some; few = ltb-false _ _ tests.1; structs = rows_are vs b.0 })
         | inr b ↦ absurd (none_is rows b.1)
@@ -53,7 +55,7 @@ as_rows-again : (rows : List Val) → AreBlockRows rows → as_rows rows ≡ Som
 as_rows-again rows h =
     let some = h.some in
     let a : eqb (length rows) 0 ≡ false = grind (arith, nat_tests) in
-    let b : ltb 65_536 (length rows) ≡ false = le-ltb _ _ h.few in
+    let b : ltb MOST_BLOCK_ROWS (length rows) ≡ false = le-ltb _ _ h.few in
     rw (a, b, rows_test rows h.structs) refl
 
 pub rows_take : (table : Table) (bytes : List ℕ) (rows : List Val) → rows_in table bytes ≡ Some rows → AreBlockRows rows × AreCells table 0 (vals rows) bytes
@@ -92,7 +94,7 @@ marker_takes (a ∷ b ∷ c ∷ d ∷ bytes) rest e =
 blocks_take : (table : Table) (rows : List Val) (bytes : List ℕ) → block_in bytes ≡ Some (table, rows) → IsBlock table rows bytes
 unfolding block_in
 blocks_take table rows bytes e =
-    elim (chosen (ltb (2 ^ 20) (length bytes)) _ _ _ e) [
+    elim (chosen (ltb MOST_BLOCK_BYTES (length bytes)) _ _ _ e) [
       | inl a ↦ absurd (none_is _ a.1)
       | inr a ↦
           let rest = then_is _ (behind_marker bytes) _ a.1 in
@@ -103,7 +105,7 @@ blocks_take table rows bytes e =
           found table rows bytes rest.0 (t.0).0 (t.0).1 m.0 (ltb-false _ _ a.0) (marker_takes bytes rest.0 rest.1) t.1 m.1 t-is rows-is
     ]
   where
-    found : (table : Table) (rows : List Val) (bytes rest : List ℕ) (u : Table) (row_bytes : List ℕ) (others : List Val) → length bytes ≤ 2 ^ 20 → bytes ≡ marker ++ rest → table_at rest ≡ Some (u, row_bytes) → rows_in u row_bytes ≡ Some others → u ≡ table → others ≡ rows → IsBlock table rows bytes
+    found : (table : Table) (rows : List Val) (bytes rest : List ℕ) (u : Table) (row_bytes : List ℕ) (others : List Val) → length bytes ≤ MOST_BLOCK_BYTES → bytes ≡ marker ++ rest → table_at rest ≡ Some (u, row_bytes) → rows_in u row_bytes ≡ Some others → u ≡ table → others ≡ rows → IsBlock table rows bytes
     found table rows bytes rest u row_bytes others short parts t r e f =
         let c = tables_take u rest row_bytes t in
         let h = rows_take u row_bytes others r in
@@ -113,7 +115,7 @@ blocks_take table rows bytes e =
 blocks_again : (table : Table) (rows : List Val) (bytes : List ℕ) → IsBlock table rows bytes → block_in bytes ≡ Some (table, rows)
 unfolding block_in
 blocks_again table rows bytes h =
-    let short : ltb (2 ^ 20) (length bytes) ≡ false = le-ltb _ _ h.short in
+    let short : ltb MOST_BLOCK_BYTES (length bytes) ≡ false = le-ltb _ _ h.short in
     let behind : behind_marker bytes ≡ Some (h.table_bytes ++ h.row_bytes) = rw h.parts refl in
     let made : AreBlockRows rows = record { some = h.some; few = h.few; structs = h.structs } in
     rw (short, behind, tables_again table h.table_bytes h.row_bytes h.is_table, rows_again table h.row_bytes rows made h.cells) refl
@@ -137,7 +139,7 @@ table_sound table bytes h = record { utf8 = texts_utf8 table h.texts h.stand; ri
 
 pub rows_sound : RowsAreSound
 rows_sound table rows bytes h =
-    (cells_sound table (table_sound table h.table_bytes h.is_table) (vals rows) 0 h.row_bytes h.cells, cells_times table (vals rows) 0 h.row_bytes h.cells)
+    (cells_sound table (table_sound table h.table_bytes h.is_table) (vals rows) 0 h.row_bytes h.cells, cells_stored table rows h.row_bytes h.cells)
 
 -- bytes that are read as no block, or as one of another count, are damaged for the count
 

@@ -182,7 +182,7 @@ one_takes table depth h v e =
 apart : (h k : ℕ) → h % 16 < 15 → k % 16 ≡ 15 → eqb h k ≡ false
 apart h k l e = grind (arith, nat_tests)
 
-one_none : (h : ℕ) → h % 16 < 15 → 32 ≤ h → one_byte h ≡ None
+pub one_none : (h : ℕ) → h % 16 < 15 → 32 ≤ h → one_byte h ≡ None
 unfolding one_byte
 one_none h l w =
     let a : eqb h 16 ≡ false = grind (arith, nat_tests) in

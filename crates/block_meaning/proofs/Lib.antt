@@ -8,6 +8,6 @@ pub mod Symbols
 pub mod LastSymbol
 pub mod TimeRange
 pub mod SoundCells
+pub mod StoredCells
 pub mod TableReading
 pub mod BlockReading
-pub mod Worked

@@ -1,4 +1,4 @@
--- What is read under a table whose texts are UTF-8 and rise has names that rise, texts that are UTF-8, and times in range, at every depth.
+-- What is read under a table whose texts are UTF-8 and rise has names that rise and texts that are UTF-8, at every depth.
 use Rattle.std.proofs.Common.{◌≡◌, ℕ, suc, ◌-◌, ◌<◌, ◌≤◌, true, false, List, [], ◌∷◌, Some, eqb, sym, ◌∙◌, arith, inl, inr}
 use Rattle.std.specs.Str.{IsUtf8}
 use Rattle.std.proofs.lemmas.Bool.Decides.{nat_tests}
@@ -9,11 +9,9 @@ use Rattle.value_meaning.specs.Sound.{IsBelowFirst, IsSound, AreSound, HasSoundF
 use Rattle.block_meaning.specs.Tables.{Table, text_from, text_of, TextsRise}
 use Rattle.block_meaning.specs.Cells.{IsCell, AreCells, ArePairs}
 use Rattle.block_meaning.specs.CellReading.{cell_to}
-use Rattle.block_meaning.specs.Laws.{HasTimesInRange, HaveTimesInRange, PairsHaveTimesInRange}
 use Rattle.block_meaning.proofs.Answered.{chosen, some_is, none_is}
 use Rattle.block_meaning.proofs.NestedReading.{reads_to}
 use Rattle.block_meaning.proofs.Symbols.{before_first}
-use Rattle.block_meaning.proofs.TimeRange.{timestamp_in_range}
 
 abbrev pub AreUtf8 : Table → Type 0
 AreUtf8 [] = Unit {0}
@@ -106,29 +104,3 @@ module _ (table : Table) (sound : IsSoundTable table) where
       let r = reads_to table room (128 - room) (omega arith) in
       let c = r.takes bytes v rest e in
       cell_sound v (128 - room) c.0 c.2
-
-module _ (table : Table) where
-  mutual
-    pub cell_times : (v : Val) (depth : ℕ) (bytes : List ℕ) → IsCell table depth v bytes → HasTimesInRange v
-    cell_times missing depth bytes c = tt
-    cell_times null depth bytes c = tt
-    cell_times (truth b) depth bytes c = tt
-    cell_times (int n) depth bytes c = tt
-    cell_times (time t) depth bytes c = timestamp_in_range t c.0 c.2
-    cell_times (text s) depth bytes c = tt
-    cell_times (list vs) depth bytes c = cells_times vs (suc depth) c.0 c.3
-    cell_times (struct fs) depth bytes c = pairs_times fs (suc depth) 10 c.0 c.3
-
-    pub cells_times : (vs : Vals) (depth : ℕ) (bytes : List ℕ) → AreCells table depth vs bytes → HaveTimesInRange vs
-    cells_times no_vals depth bytes c = tt
-    cells_times (val v vs) depth bytes c = (cell_times v depth c.0 c.3, cells_times vs depth c.1 c.4)
-
-    pub pairs_times : (fs : Fields) (depth low : ℕ) (bytes : List ℕ) → ArePairs table depth low fs bytes → PairsHaveTimesInRange fs
-    pairs_times no_fields depth low bytes c = tt
-    pairs_times (field n v fs) depth low bytes c = (cell_times v depth c.2 c.8, pairs_times fs depth (suc c.0) c.3 c.9)
-
-  pub read_times : (room : ℕ) (bytes : List ℕ) (v : Val) (rest : List ℕ) → room ≤ 128 → cell_to table room bytes ≡ Some (v, rest) → HasTimesInRange v
-  read_times room bytes v rest few e =
-      let r = reads_to table room (128 - room) (omega arith) in
-      let c = r.takes bytes v rest e in
-      cell_times v (128 - room) c.0 c.2

@@ -1,10 +1,11 @@
 -- Blocks: the marker of Ion 1.0, one symbol table, and the cells of the rows, end to end.
-use Rattle.std.specs.Prelude.{◌≡◌, ℕ, zero, suc, ◌+◌, ◌^◌, ◌≤◌, Bool, true, false, ◌&&◌, ◌||◌, List, [], ◌∷◌, ◌++◌, length, take, drop, Option, Some, None, nat_lt, ◌==◌, if◌then◌else◌}
+use Rattle.std.specs.Prelude.{◌≡◌, ℕ, zero, suc, ◌+◌, ◌≤◌, Bool, true, false, ◌&&◌, ◌||◌, List, [], ◌∷◌, ◌++◌, length, take, drop, Option, Some, None, nat_lt, ◌==◌, if◌then◌else◌}
 use Rattle.std.specs.Option.{option_map, option_and_then}
 use Rattle.std.specs.Ordering.{nat_cmp, is_lt}
 use Rattle.std.specs.Cmp.Lexicographic.{slice_cmp}
 use Rattle.std.specs.Str.{IsUtf8, is_utf8}
 use Rattle.value_meaning.specs.Val.{Val, struct, vals, items}
+use Rattle.block_meaning.specs.declared.TheConstants.{MOST_BLOCK_BYTES, MOST_BLOCK_ROWS, MOST_DEPTH}
 use Rattle.block_meaning.specs.Numbers.{IsVarUInt, var_uint}
 use Rattle.block_meaning.specs.Tables.{Table, TextsRise}
 use Rattle.block_meaning.specs.Cells.{HasPayload, AreCells}
@@ -48,11 +49,11 @@ abbrev pub AreRows : List Val → Type 0
 AreRows [] = Unit {0}
 AreRows (v ∷ vs) = (is_struct v ≡ true) × AreRows vs
 
--- The bytes are a block of these rows: a block has 1 to 65,536 rows and at most 1,048,576 bytes.
+-- The bytes are a block of these rows.
 pub record IsBlock (table : Table) (rows : List Val) (bytes : List ℕ) : Type 0 where
-  pub short : length bytes ≤ 2 ^ 20
+  pub short : length bytes ≤ MOST_BLOCK_BYTES
   pub some : 1 ≤ length rows
-  pub few : length rows ≤ 65_536
+  pub few : length rows ≤ MOST_BLOCK_ROWS
   pub structs : AreRows rows
   pub table_bytes : List ℕ
   pub row_bytes : List ℕ
@@ -107,12 +108,12 @@ abbrev pub all_structs : List Val → Bool
 all_structs [] = true
 all_structs (v ∷ vs) = is_struct v && all_structs vs
 
--- the values, where they are 1 to 65,536 structs
+-- the values, where they are structs, and as many as a block may have
 abbrev pub as_rows : List Val → Option (List Val)
-as_rows vs = if (length vs == 0) || nat_lt 65_536 (length vs) then None else (if all_structs vs then Some vs else None)
+as_rows vs = if (length vs == 0) || nat_lt MOST_BLOCK_ROWS (length vs) then None else (if all_structs vs then Some vs else None)
 
 unfoldable pub rows_in : Table → List ℕ → Option (List Val)
-rows_in table bytes = option_and_then (λ vs. as_rows (items vs)) (cells_by (cell_to table 128) (length bytes) bytes)
+rows_in table bytes = option_and_then (λ vs. as_rows (items vs)) (cells_by (cell_to table MOST_DEPTH) (length bytes) bytes)
 
 -- what follows the marker
 abbrev pub behind_marker : List ℕ → Option (List ℕ)
@@ -122,5 +123,5 @@ behind_marker bytes = None
 -- the table and the rows of bytes that are a block
 unfoldable pub block_in : List ℕ → Option (Table × List Val)
 block_in bytes =
-    if nat_lt (2 ^ 20) (length bytes) then None
+    if nat_lt MOST_BLOCK_BYTES (length bytes) then None
     else option_and_then (λ rest. option_and_then (λ t. option_map (λ rows. (t.0, rows)) (rows_in t.0 t.1)) (table_at rest)) (behind_marker bytes)

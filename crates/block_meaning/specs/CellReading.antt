@@ -3,6 +3,7 @@ use Rattle.std.specs.Prelude.{ℕ, zero, suc, ◌-◌, ◌/◌, ◌%◌, ◌^◌
 use Rattle.std.specs.Option.{option_map, option_and_then}
 use Rattle.std.specs.Str.{is_utf8}
 use Rattle.value_meaning.specs.Val.{Val, Vals, Fields, missing, null, truth, int, time, text, list, struct, no_vals, val, no_fields, field}
+use Rattle.block_meaning.specs.declared.TheConstants.{MOST_DEPTH}
 use Rattle.block_meaning.specs.Numbers.{var_uint, magnitude}
 use Rattle.block_meaning.specs.Timestamps.{timestamp}
 use Rattle.block_meaning.specs.Tables.{Table, text_of}
@@ -103,18 +104,18 @@ abbrev pub ends_there : Option (Val × List ℕ) → Bool
 ends_there None = false
 ends_there (Some x) = length x.1 == 0
 
--- the value of the cell at the front, else MISSING, which no cell denotes
+-- the value of the cell at the front, else MISSING
 abbrev pub value_read : Option (Val × List ℕ) → Val
 value_read None = missing
 value_read (Some x) = x.0
 
--- The bytes are one cell under the table, one that stands in no list or struct.
+-- The bytes are one cell under the table. It stands in no list or struct.
 unfoldable pub is_cell : Table → List ℕ → Bool
-is_cell table bytes = ends_there (cell_to table 128 bytes)
+is_cell table bytes = ends_there (cell_to table MOST_DEPTH bytes)
 
 -- what the cell denotes under the table
 unfoldable pub cell_value : Table → List ℕ → Val
-cell_value table bytes = value_read (cell_to table 128 bytes)
+cell_value table bytes = value_read (cell_to table MOST_DEPTH bytes)
 
 -- A table with this last number, all of whose texts are empty. Which bytes are a cell depends on a table's last number alone.
 abbrev pub blank_table : ℕ → Table

@@ -3,6 +3,7 @@
 use Rattle.std.specs.Prelude.{◌≡◌, ℕ, suc, ◌+◌, ◌*◌, ◌^◌, ◌<◌, ◌≤◌, ◌≢◌, ◌⊎◌, pos, negsuc, List, [], ◌∷◌, ◌++◌, length, Some, Contains, if◌then◌else◌}
 use Rattle.std.specs.Str.{IsUtf8}
 use Rattle.value_meaning.specs.Val.{Val, Vals, Fields, missing, null, truth, int, time, text, list, struct, no_vals, val, no_fields, field}
+use Rattle.block_meaning.specs.declared.TheConstants.{MOST_DEPTH}
 use Rattle.block_meaning.specs.Numbers.{IsVarUInt, magnitude}
 use Rattle.block_meaning.specs.Timestamps.{IsTimestamp}
 use Rattle.block_meaning.specs.Tables.{Table, text_of}
@@ -44,8 +45,8 @@ abbrev mutual
   IsCell table depth (text s) bytes =
       ((payload : List ℕ) × (number : ℕ) × HasPayload 7 payload bytes × IsMagnitude 4 payload number × (text_of table number ≡ Some s))
       ⊎ (HasPayload 8 s bytes × IsUtf8 s)
-  IsCell table depth (list vs) bytes = (payload : List ℕ) × HasPayload 11 payload bytes × (depth < 128) × AreCells table (suc depth) vs payload
-  IsCell table depth (struct fs) bytes = (payload : List ℕ) × HasPayload 13 payload bytes × (depth < 128) × ArePairs table (suc depth) 10 fs payload
+  IsCell table depth (list vs) bytes = (payload : List ℕ) × HasPayload 11 payload bytes × (depth < MOST_DEPTH) × AreCells table (suc depth) vs payload
+  IsCell table depth (struct fs) bytes = (payload : List ℕ) × HasPayload 13 payload bytes × (depth < MOST_DEPTH) × ArePairs table (suc depth) 10 fs payload
 
   -- cells end to end
   pub AreCells : Table → ℕ → Vals → List ℕ → Type 0

@@ -1,12 +1,13 @@
 -- Laws of cells, symbol tables and blocks.
-use Rattle.std.specs.Prelude.{◌≡◌, ◌↔◌, ℕ, ◌-◌, List, ◌++◌, length, Some, IsTrue}
+use Rattle.std.specs.Prelude.{◌≡◌, ◌↔◌, ℕ, ◌-◌, List, ◌++◌, length, Some, All}
 use Rattle.std.specs.Option.{option_map}
-use Rattle.time_meaning.specs.Moments.{is_time}
-use Rattle.value_meaning.specs.Val.{Val, Vals, Fields, missing, null, truth, int, time, text, list, struct, no_vals, val, no_fields, field, vals}
+use Rattle.value_meaning.specs.Val.{Val, vals}
 use Rattle.value_meaning.specs.Sound.{AreSound}
+use Rattle.block_meaning.specs.declared.TheConstants.{MOST_DEPTH}
 use Rattle.block_meaning.specs.Tables.{Table}
 use Rattle.block_meaning.specs.Cells.{IsCell}
 use Rattle.block_meaning.specs.CellReading.{cell_to}
+use Rattle.block_meaning.specs.Stored.{IsStored}
 use Rattle.block_meaning.specs.Blocks.{IsTable, IsBlock, table_at, block_in}
 
 -- a front of the bytes is meant, and this is what follows it
@@ -17,7 +18,7 @@ HasFront Front bytes rest = (front : List ℕ) × (bytes ≡ front ++ rest) × F
 abbrev pub CellsAreRead : Type 0
 CellsAreRead =
     (table : Table) (depth : ℕ) (v : Val) (bytes rest : List ℕ)
-    → (cell_to table (128 - depth) bytes ≡ Some (v, rest)) ↔ HasFront (IsCell table depth v) bytes rest
+    → (cell_to table (MOST_DEPTH - depth) bytes ≡ Some (v, rest)) ↔ HasFront (IsCell table depth v) bytes rest
 
 abbrev pub TablesAreRead : Type 0
 TablesAreRead =
@@ -37,26 +38,11 @@ LastSymbolDecides =
     (t u : Table) (room : ℕ) (bytes : List ℕ) → length t ≡ length u
     → option_map (λ x. x.1) (cell_to t room bytes) ≡ option_map (λ x. x.1) (cell_to u room bytes)
 
--- each time lies from the year 1 to the year 9999
-abbrev mutual
-  pub HasTimesInRange : Val → Type 0
-  HasTimesInRange missing = Unit {0}
-  HasTimesInRange null = Unit {0}
-  HasTimesInRange (truth b) = Unit {0}
-  HasTimesInRange (int n) = Unit {0}
-  HasTimesInRange (time t) = IsTrue (is_time t)
-  HasTimesInRange (text s) = Unit {0}
-  HasTimesInRange (list vs) = HaveTimesInRange vs
-  HasTimesInRange (struct fs) = PairsHaveTimesInRange fs
-
-  pub HaveTimesInRange : Vals → Type 0
-  HaveTimesInRange no_vals = Unit {0}
-  HaveTimesInRange (val v vs) = HasTimesInRange v × HaveTimesInRange vs
-
-  pub PairsHaveTimesInRange : Fields → Type 0
-  PairsHaveTimesInRange no_fields = Unit {0}
-  PairsHaveTimesInRange (field n v fs) = HasTimesInRange v × PairsHaveTimesInRange fs
-
--- The rows of a block have names that rise, at every depth, and times in range.
+-- The rows of a block have names that rise and texts that are UTF-8, at every depth, and each of them is stored.
 abbrev pub RowsAreSound : Type 0
-RowsAreSound = (table : Table) (rows : List Val) (bytes : List ℕ) → IsBlock table rows bytes → AreSound (vals rows) × HaveTimesInRange (vals rows)
+RowsAreSound =
+    (table : Table) (rows : List Val) (bytes : List ℕ) → IsBlock table rows bytes → AreSound (vals rows) × All IsStored rows
+
+-- What a cell denotes is stored.
+abbrev pub CellsAreStored : Type 0
+CellsAreStored = (table : Table) (v : Val) (bytes : List ℕ) → IsCell table 0 v bytes → IsStored v

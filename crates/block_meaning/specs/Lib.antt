@@ -4,4 +4,6 @@ pub mod Tables
 pub mod Cells
 pub mod CellReading
 pub mod Blocks
+pub mod Stored
 pub mod Laws
+pub mod Examples

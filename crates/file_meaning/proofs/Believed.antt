@@ -1,5 +1,5 @@
 -- What is read is spelled: from what reading answers to a block file.
-use Rattle.std.proofs.Common.{◌≡◌, ℕ, ◌+◌, ◌-◌, ◌*◌, ◌^◌, ◌≤◌, zero, suc, Bool, true, false, cond, List, [], ◌∷◌, ◌++◌, length, take, drop, Option, Some, None, refl, sym, ap, ◌∙◌, subst, arith, length-drop}
+use Rattle.std.proofs.Common.{◌≡◌, ℕ, ◌+◌, ◌-◌, ◌*◌, ◌≤◌, zero, suc, Bool, true, false, cond, List, [], ◌∷◌, ◌++◌, length, take, drop, Option, Some, None, refl, sym, ap, ◌∙◌, subst, arith, length-drop}
 use Rattle.std.specs.Prelude.{codes, flat_map, nat_le, ◌==◌, ◌&&◌, FitsSigned}
 use Rattle.std.specs.Option.{option_map, option_and_then}
 use Rattle.std.specs.Int.{to_be_bytes, cast_signed, cast_unsigned, w16, w32, w64}
@@ -11,8 +11,8 @@ use Rattle.std.proofs.lemmas.Bool.{and_parts}
 use Rattle.std.proofs.lemmas.Bool.Decides.{nat_tests}
 use Rattle.std.proofs.lemmas.Slice.Eq.{bytes_eq-Decides}
 use Rattle.std.proofs.Math.Facts.{sfits_to_z, Fits-of_lt}
-use Rattle.file_meaning.specs.Files.{Entry, IsEntry, IsFile, StandEndToEnd, entry_bytes, index_bytes, tail_bytes}
-use Rattle.file_meaning.specs.Index.{SpellsIndex}
+use Rattle.file_meaning.specs.declared.TheConstants.{MOST_BLOCKS, MOST_NAME_BYTES, LEAST_INDEX_BYTES, MOST_INDEX_BYTES}
+use Rattle.file_meaning.specs.Files.{Entry, IsEntry, IsIndex, SpellsIndex, IsFile, StandEndToEnd, entry_bytes, index_bytes, tail_bytes}
 use Rattle.file_meaning.specs.Reading.{AreBytes, u16_at, u32_at, u64_at, has_magic, entry_at, stands_at, entries_at, named_at, index_in, can_be_index, gap_in, index_before, file_in}
 use Rattle.file_meaning.proofs.Numbers.{u16_spells, u32_spells, u64_spells, u64_small, are_bytes_of, are_bytes_behind}
 use Rattle.file_meaning.proofs.Spelled.{Answers}
@@ -128,8 +128,8 @@ map_is name f (Some l) es h =
 
 -- what reading the name and the entries believes
 record AreNamed (to n count : ℕ) (bytes f : List ℕ) (es : List Entry) : Type 0 where
-  pub short : n ≤ 255
-  pub few : count ≤ 2 ^ 20
+  pub short : n ≤ MOST_NAME_BYTES
+  pub few : count ≤ MOST_BLOCKS
   pub long : length bytes ≡ 10 + n + 32 * count
   pub utf8 : IsUtf8 f
   pub name : take n (drop 6 bytes) ≡ f
@@ -140,9 +140,9 @@ unfolding named_at
 named_spell to n count bytes f es all h =
     let name = take n (drop 6 bytes) in
     let y : List ℕ × List Entry = (f, es) in
-    let t = if_holds (nat_le n 255 && nat_le count (2 ^ 20) && (length bytes == 10 + n + 32 * count) && is_utf8 name) (option_map (λ l. (name, l)) (entries_at 0 to count (10 + n) bytes)) y h in
-    let u = and_parts (nat_le n 255 && nat_le count (2 ^ 20) && (length bytes == 10 + n + 32 * count)) (is_utf8 name) t.holds in
-    let sizes : (n ≤ 255) × (count ≤ 2 ^ 20) × (length bytes ≡ 10 + n + 32 * count) = (grind (arith, nat_tests, u.0), grind (arith, nat_tests, u.0), grind (arith, nat_tests, u.0)) in
+    let t = if_holds (nat_le n MOST_NAME_BYTES && nat_le count MOST_BLOCKS && (length bytes == 10 + n + 32 * count) && is_utf8 name) (option_map (λ l. (name, l)) (entries_at 0 to count (10 + n) bytes)) y h in
+    let u = and_parts (nat_le n MOST_NAME_BYTES && nat_le count MOST_BLOCKS && (length bytes == 10 + n + 32 * count)) (is_utf8 name) t.holds in
+    let sizes : (n ≤ MOST_NAME_BYTES) × (count ≤ MOST_BLOCKS) × (length bytes ≡ 10 + n + 32 * count) = (grind (arith, nat_tests, u.0), grind (arith, nat_tests, u.0), grind (arith, nat_tests, u.0)) in
     let m = map_is name f (entries_at 0 to count (10 + n) bytes) es t.is in
     record {
       short = sizes.0;
@@ -181,8 +181,8 @@ index_spells to bytes f es all h =
 pub record IsGap (at : ℕ) (tail : List ℕ) (gap : ℕ) : Type 0 where
   pub magic : has_magic 8 tail ≡ true
   pub is : at - u64_at 0 tail ≡ gap
-  pub low : 10 ≤ gap
-  pub high : gap ≤ 33_554_697
+  pub low : LEAST_INDEX_BYTES ≤ gap
+  pub high : gap ≤ MOST_INDEX_BYTES
 
 pub gap_is : (at : ℕ) (tail : List ℕ) (gap : ℕ) → gap_in at tail ≡ Some gap → IsGap at tail gap
 unfolding gap_in
@@ -221,14 +221,10 @@ file_of_parts bytes tail part gap f es read tail_spelled index =
     let blocks_long : length (take to bytes) ≡ to = length-take-le to bytes (omega arith) in
     let behind : drop to bytes ≡ part ++ tail = sym (take-append-drop gap (drop to bytes)) ∙ ap (λ (l : List ℕ). l ++ drop gap (drop to bytes)) (sym read.part_is) ∙ ap (λ (l : List ℕ). part ++ l) (drop-drop gap to bytes ∙ ap (λ (k : ℕ). drop k bytes) together ∙ sym read.tail_is) in
     let ended : tail ≡ tail_bytes (length (take to bytes)) = tail_spelled ∙ ap tail_bytes (sym blocks_long) in
-    let limits = index.within in
     record {
       blocks = take to bytes;
       parts = sym (take-append-drop to bytes) ∙ ap (λ (l : List ℕ). take to bytes ++ l) (behind ∙ ap (λ (l : List ℕ). l ++ tail) index.spelled ∙ ap (λ (l : List ℕ). index_bytes f es ++ l) ended);
-      short_name = limits.short_name;
-      name = limits.name;
-      few = limits.few;
-      stand = subst (λ (n : ℕ). StandEndToEnd 0 es n) (sym blocks_long) limits.stand;
+      index = subst (λ (n : ℕ). IsIndex f es n) (sym blocks_long) index.within;
     }
 
 record ThenIs {S T : Type 0} (o : Option S) (k : S → Option T) (x : T) : Type 0 where

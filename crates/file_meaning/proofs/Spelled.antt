@@ -10,8 +10,8 @@ use Rattle.std.proofs.lemmas.Bool.Decides.{nat_tests}
 use Rattle.std.proofs.Math.Facts.{Fits-of_z}
 use Rattle.std.proofs.Common.{Fits, ℤ}
 use Rattle.std.proofs.Math.Seq.{drop-append_seam, take-append_seam}
-use Rattle.file_meaning.specs.Files.{Entry, IsEntry, IsFile, StandEndToEnd, entry_bytes, index_bytes, tail_bytes}
-use Rattle.file_meaning.specs.Index.{IsIndex}
+use Rattle.file_meaning.specs.declared.TheConstants.{MOST_BLOCKS, MOST_NAME_BYTES, MOST_ENTRY_BYTES, LEAST_INDEX_BYTES, MOST_INDEX_BYTES}
+use Rattle.file_meaning.specs.Files.{Entry, IsEntry, IsIndex, IsFile, StandEndToEnd, entry_bytes, index_bytes, tail_bytes}
 use Rattle.file_meaning.specs.Reading.{u16_at, u32_at, u64_at, has_magic, entry_at, stands_at, entries_at, named_at, index_in, gap_in, index_before, file_in}
 use Rattle.file_meaning.proofs.Numbers.{behind, u16_reads, u32_reads, u64_reads}
 
@@ -38,12 +38,12 @@ entry_reads at e bytes more fits is =
     let high = ap (cast_signed w64) greatest ∙ to_z-of_z w64 e.greatest fits.entry.greatest in
     λ i. record { start = start i; length = long i; rows = rows i; least = low i; greatest = high i }
 
--- blocks end at most 1,048,576 bytes an entry behind where they start
-pub stand_bounds : (from to : ℕ) (es : List Entry) → StandEndToEnd from es to → (from ≤ to) × (to ≤ from + 2 ^ 20 * length es)
+-- how far behind its start the last block ends
+pub stand_bounds : (from to : ℕ) (es : List Entry) → StandEndToEnd from es to → (from ≤ to) × (to ≤ from + MOST_ENTRY_BYTES * length es)
 stand_bounds from to [] stand = (omega arith, omega arith)
 stand_bounds from to (e ∷ es) stand =
     let rest = stand_bounds (from + e.length) to es stand.2 in
-    let short : e.length ≤ 2 ^ 20 = stand.1.few_bytes in
+    let short : e.length ≤ MOST_ENTRY_BYTES = stand.1.few_bytes in
     (omega arith, omega arith)
 
 stands : (from : ℕ) (e : Entry) → e.start ≡ from → IsEntry e → stands_at from e ≡ true
@@ -86,13 +86,13 @@ named_reads f es to index =
     let bytes = index_bytes f es in
     let more = to_be_bytes w32 (length es) ++ flat_map entry_bytes es in
     let bounds = stand_bounds 0 to es index.stand in
-    let few : length es ≤ 2 ^ 20 = index.few in
+    let few : length es ≤ MOST_BLOCKS = index.few in
     let name : take (length f) (drop 6 bytes) ≡ f = take-append_seam f more in
     let at : drop (10 + length f) bytes ≡ flat_map entry_bytes es = ap (λ k. drop k bytes) (ten (length f)) ∙ ahead 4 (6 + length f) bytes (to_be_bytes w32 (length es) ++ flat_map entry_bytes es) (behind_name f es) in
     let entries : entries_at 0 to (length es) (10 + length f) bytes ≡ Some es = entries_read 0 to (10 + length f) es bytes (omega arith) index.stand at in
     let long : (length bytes == 10 + length f + 32 * length es) ≡ true = eq-eqb (length bytes) (10 + length f + 32 * length es) (length-index f es) in
-    let low : nat_le (length f) 255 ≡ true = le_test (length f) 255 index.short_name in
-    let many : nat_le (length es) (2 ^ 20) ≡ true = le_test (length es) (2 ^ 20) index.few in
+    let low : nat_le (length f) MOST_NAME_BYTES ≡ true = le_test (length f) MOST_NAME_BYTES index.short_name in
+    let many : nat_le (length es) MOST_BLOCKS ≡ true = le_test (length es) MOST_BLOCKS index.few in
     let utf8 : is_utf8 f ≡ true = is_utf8-from_IsUtf8 f index.name in
     rw (low, many, long, name, utf8, entries) refl
 
@@ -101,8 +101,8 @@ unfolding index_in has_magic
 index_reads f es to index =
     let bytes = index_bytes f es in
     let more = to_be_bytes w32 (length es) ++ flat_map entry_bytes es in
-    let short : length f ≤ 255 = index.short_name in
-    let few : length es ≤ 2 ^ 20 = index.few in
+    let short : length f ≤ MOST_NAME_BYTES = index.short_name in
+    let few : length es ≤ MOST_BLOCKS = index.few in
     let n : u16_at 4 bytes ≡ length f = u16_reads 4 (length f) bytes (f ++ more) (omega arith) refl in
     let count : u32_at (6 + length f) bytes ≡ length es = u32_reads (6 + length f) (length es) bytes (flat_map entry_bytes es) (omega arith) (behind_name f es) in
     rw (n, count) (named_reads f es to index)
@@ -124,13 +124,13 @@ index_is : (bytes blocks index tail : List ℕ) → HasParts bytes blocks index 
 index_is bytes blocks index tail p =
     ap (λ (l : List ℕ). take (length index) l) (ap (drop (length blocks)) p.parts ∙ drop-append_seam blocks (index ++ tail)) ∙ take-append_seam index tail
 
-gap_reads : (start gap : ℕ) → start < 2 ^ 64 → 10 ≤ gap → gap ≤ 33_554_697 → gap_in (start + gap) (tail_bytes start) ≡ Some gap
+gap_reads : (start gap : ℕ) → start < 2 ^ 64 → LEAST_INDEX_BYTES ≤ gap → gap ≤ MOST_INDEX_BYTES → gap_in (start + gap) (tail_bytes start) ≡ Some gap
 unfolding gap_in has_magic
 gap_reads start gap small low high =
     let is : u64_at 0 (tail_bytes start) ≡ start = u64_reads 0 start (tail_bytes start) (codes "SNX1") small refl in
     let left : start + gap - start ≡ gap = omega arith in
-    let enough : nat_le 10 gap ≡ true = le_test 10 gap low in
-    let few : nat_le gap 33_554_697 ≡ true = le_test gap 33_554_697 high in
+    let enough : nat_le LEAST_INDEX_BYTES gap ≡ true = le_test LEAST_INDEX_BYTES gap low in
+    let few : nat_le gap MOST_INDEX_BYTES ≡ true = le_test gap MOST_INDEX_BYTES high in
     rw (is, left, enough, few) refl
 
 pub file_reads : (bytes f : List ℕ) (es : List Entry) → IsFile bytes f es → Answers (file_in bytes) f es
@@ -139,12 +139,11 @@ file_reads bytes f es file =
     let blocks = file.blocks in
     let index = index_bytes f es in
     let p : HasParts bytes blocks index (tail_bytes (length blocks)) = record { parts = file.parts; twelve = refl } in
-    let is : IsIndex f es (length blocks) = record { short_name = file.short_name; name = file.name; few = file.few; stand = file.stand } in
-    let short : length f ≤ 255 = file.short_name in
-    let few : length es ≤ 2 ^ 20 = file.few in
-    let bounds = stand_bounds 0 (length blocks) es file.stand in
+    let short : length f ≤ MOST_NAME_BYTES = file.index.short_name in
+    let few : length es ≤ MOST_BLOCKS = file.index.few in
+    let bounds = stand_bounds 0 (length blocks) es file.index.stand in
     let long = length-index f es in
     let gap = gap_reads (length blocks) (length index) (omega arith) (omega arith) (omega arith) in
     let before : length blocks + length index - length index ≡ length blocks = omega arith in
     rw (tail_at bytes blocks index (tail_bytes (length blocks)) p, tail_is bytes blocks index (tail_bytes (length blocks)) p, gap, before, index_is bytes blocks index (tail_bytes (length blocks)) p)
-    (index_reads f es (length blocks) is)
+    (index_reads f es (length blocks) file.index)

@@ -1,10 +1,11 @@
 -- Block files, version 1: blocks end to end, an index, a tail. All numbers are big endian.
-use Rattle.std.specs.Prelude.{◌≡◌, ℕ, ◌+◌, ◌^◌, ◌≤◌, ℤ, List, [], ◌∷◌, ◌++◌, length, take, drop, codes, Option, Some, None, ◌==◌, if◌then◌else◌, FitsSigned, flat_map}
+use Rattle.std.specs.Prelude.{◌≡◌, ℕ, ◌+◌, ◌≤◌, ◌⊎◌, ℤ, List, [], ◌∷◌, ◌++◌, length, take, drop, codes, FitsSigned, flat_map}
 use Rattle.std.specs.Int.{to_be_bytes, cast_unsigned, w16, w32, w64}
 use Rattle.std.specs.Str.{IsUtf8}
 use Rattle.value_meaning.specs.Val.{Val}
 use Rattle.block_meaning.specs.Tables.{Table}
-use Rattle.block_meaning.specs.Blocks.{block_in}
+use Rattle.block_meaning.specs.Blocks.{IsBlock, IsDamaged}
+use Rattle.file_meaning.specs.declared.TheConstants.{MOST_BLOCKS, MOST_NAME_BYTES, MOST_ENTRY_BYTES, MOST_ENTRY_ROWS}
 
 -- what the index says of a block: where it starts, its bytes and rows, and the least and greatest time of the indexed field in it
 pub record Entry : Type 0 where
@@ -28,12 +29,12 @@ index_bytes field entries =
 abbrev pub tail_bytes : ℕ → List ℕ
 tail_bytes start = to_be_bytes w64 start ++ codes "SNX1"
 
--- a block has 1 to 1,048,576 bytes and 1 to 65,536 rows
+-- the counts of an entry are within the limits of a file, and its times are such
 pub record IsEntry (e : Entry) : Type 0 where
   pub some_bytes : 1 ≤ e.length
-  pub few_bytes : e.length ≤ 2 ^ 20
+  pub few_bytes : e.length ≤ MOST_ENTRY_BYTES
   pub some_rows : 1 ≤ e.rows
-  pub few_rows : e.rows ≤ 65_536
+  pub few_rows : e.rows ≤ MOST_ENTRY_ROWS
   pub least : FitsSigned w64 e.least
   pub greatest : FitsSigned w64 e.greatest
 
@@ -42,28 +43,36 @@ abbrev pub StandEndToEnd : ℕ → List Entry → ℕ → Type 0
 StandEndToEnd from [] to = from ≡ to
 StandEndToEnd from (e ∷ es) to = (e.start ≡ from) × IsEntry e × StandEndToEnd (from + e.length) es to
 
+-- What an index may say: the field's name and the entries are in range, and the blocks stand end to end from 0 to this place.
+pub record IsIndex (field : List ℕ) (entries : List Entry) (to : ℕ) : Type 0 where
+  pub short_name : length field ≤ MOST_NAME_BYTES
+  pub name : IsUtf8 field
+  pub few : length entries ≤ MOST_BLOCKS
+  pub stand : StandEndToEnd 0 entries to
+
+-- The bytes are an index with this field and these entries, of blocks up to this place.
+pub record SpellsIndex (bytes field : List ℕ) (entries : List Entry) (to : ℕ) : Type 0 where
+  pub spelled : bytes ≡ index_bytes field entries
+  pub within : IsIndex field entries to
+
 -- The bytes are a block file with this index. Whether blocks are damaged is no part of it.
 pub record IsFile (bytes field : List ℕ) (entries : List Entry) : Type 0 where
   pub blocks : List ℕ
   pub parts : bytes ≡ blocks ++ (index_bytes field entries ++ tail_bytes (length blocks))
-  pub short_name : length field ≤ 255
-  pub name : IsUtf8 field
-  pub few : length entries ≤ 2 ^ 20
-  pub stand : StandEndToEnd 0 entries (length blocks)
+  pub index : IsIndex field entries (length blocks)
 
 -- the bytes of a block
 abbrev pub bytes_at : Entry → List ℕ → List ℕ
 bytes_at e bytes = take e.length (drop e.start bytes)
 
--- the rows of a block that is undamaged for the count of its entry
-abbrev pub counted_rows : ℕ → Option (Table × List Val) → List Val
-counted_rows n None = []
-counted_rows n (Some b) = if length b.1 == n then b.1 else []
+-- The rows of a block of the file: those of which its bytes are the block, or none where they are damaged for the entry's count.
+abbrev pub AreEntryRows : Entry → List ℕ → List Val → Type 0
+AreEntryRows e bytes rows =
+    ((table : Table) × IsBlock table rows (bytes_at e bytes) × (length rows ≡ e.rows))
+    ⊎ (IsDamaged e.rows (bytes_at e bytes) × (rows ≡ []))
 
-unfoldable pub rows_at : Entry → List ℕ → List Val
-rows_at e bytes = counted_rows e.rows (block_in (bytes_at e bytes))
-
--- the rows of a file's undamaged blocks, in order
-abbrev pub rows_of : List Entry → List ℕ → List Val
-rows_of [] bytes = []
-rows_of (e ∷ es) bytes = rows_at e bytes ++ rows_of es bytes
+-- The rows of a file's undamaged blocks, in order.
+abbrev pub AreFileRows : List Entry → List ℕ → List Val → Type 0
+AreFileRows [] bytes rows = rows ≡ []
+AreFileRows (e ∷ es) bytes rows =
+    (first : List Val) × (others : List Val) × (rows ≡ first ++ others) × AreEntryRows e bytes first × AreFileRows es bytes others

@@ -1,4 +1,3 @@
 pub mod Files
-pub mod Index
 pub mod Reading
 pub mod Laws

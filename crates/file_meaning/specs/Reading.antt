@@ -1,8 +1,9 @@
 -- Block files by reading: the tail, then the index at the place that the tail names.
-use Rattle.std.specs.Prelude.{ℕ, zero, suc, ◌+◌, ◌-◌, ◌*◌, ◌^◌, ◌<◌, Bool, ◌&&◌, List, [], ◌∷◌, length, take, drop, codes, Option, Some, None, ◌==◌, nat_le, slice_index, if◌then◌else◌}
+use Rattle.std.specs.Prelude.{ℕ, zero, suc, ◌+◌, ◌-◌, ◌*◌, ◌<◌, Bool, ◌&&◌, List, [], ◌∷◌, length, take, drop, codes, Option, Some, None, ◌==◌, nat_le, slice_index, if◌then◌else◌}
 use Rattle.std.specs.Option.{option_map, option_and_then}
 use Rattle.std.specs.Int.{from_be_bytes, cast_signed, w16, w32, w64}
 use Rattle.std.specs.Str.{bytes_eq, is_utf8}
+use Rattle.file_meaning.specs.declared.TheConstants.{MOST_BLOCKS, MOST_NAME_BYTES, MOST_ENTRY_BYTES, MOST_ENTRY_ROWS, LEAST_INDEX_BYTES, MOST_INDEX_BYTES}
 use Rattle.file_meaning.specs.Files.{Entry}
 
 -- each number of the list is a byte
@@ -36,7 +37,7 @@ entry_at at bytes = record {
 -- the entry is of a block that starts there, and is in range
 unfoldable pub stands_at : ℕ → Entry → Bool
 stands_at from e =
-    (e.start == from) && nat_le 1 e.length && nat_le e.length (2 ^ 20) && nat_le 1 e.rows && nat_le e.rows 65_536
+    (e.start == from) && nat_le 1 e.length && nat_le e.length MOST_ENTRY_BYTES && nat_le 1 e.rows && nat_le e.rows MOST_ENTRY_ROWS
 
 -- so many entries at a place, of blocks that stand end to end from one place to the other
 unfoldable pub entries_at : ℕ → ℕ → ℕ → ℕ → List ℕ → Option (List Entry)
@@ -49,7 +50,7 @@ entries_at from to (suc count) at bytes =
 unfoldable pub named_at : ℕ → ℕ → ℕ → List ℕ → Option (List ℕ × List Entry)
 named_at to n count bytes =
     let name = take n (drop 6 bytes) in
-    if nat_le n 255 && nat_le count (2 ^ 20) && (length bytes == 10 + n + 32 * count) && is_utf8 name
+    if nat_le n MOST_NAME_BYTES && nat_le count MOST_BLOCKS && (length bytes == 10 + n + 32 * count) && is_utf8 name
     then option_map (λ es. (name, es)) (entries_at 0 to count (10 + n) bytes)
     else None
 
@@ -58,9 +59,9 @@ unfoldable pub index_in : ℕ → List ℕ → Option (List ℕ × List Entry)
 index_in to bytes =
     if has_magic 0 bytes then named_at to (u16_at 4 bytes) (u32_at (6 + u16_at 4 bytes) bytes) bytes else None
 
--- how long an index can be: from 10 bytes to those with a name of 255 bytes and 1,048,576 entries
+-- how long an index can be
 abbrev pub can_be_index : ℕ → Bool
-can_be_index n = nat_le 10 n && nat_le n 33_554_697
+can_be_index n = nat_le LEAST_INDEX_BYTES n && nat_le n MOST_INDEX_BYTES
 
 -- How many bytes lie between the start that a tail names and the tail, which stands at this place. None where no index can lie there.
 unfoldable pub gap_in : ℕ → List ℕ → Option ℕ

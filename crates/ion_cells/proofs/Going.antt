@@ -14,14 +14,16 @@ use Rattle.block_meaning.proofs.LastSymbol.{length_blank, same_ends, same_cells,
 use Rattle.block_meaning.proofs.CellSteps.{ends, cell_shrinks, cells_next, cells_stop, pairs_next, var_uint_shrinks, first_of_cells}
 use Rattle.ion_cells.specs.Standing.{HasLast}
 use Rattle.ion_cells.specs.Steps.{payload_to}
+use Rattle.ion_cells.specs.declared.tag.Tag.{Tag}
+use Rattle.ion_cells.specs.Tags.{tag_of_type, opening}
 use Rattle.ion_cells.specs.Left.{are_items, are_fields, values_read, values_of, pairs_read, pairs_of, name_of, named, behind_cell}
 use Rattle.ion_cells.proofs.Answered.{there}
 use Rattle.ion_cells.proofs.PairSteps.{cell_to_is}
 use Rattle.ion_cells.proofs.Stands.{same_last}
 
--- what follows a cell that was read is found by its head
+-- what follows a cell that was read is found by its first bytes
 behind_by : (p : ℕ → List ℕ → Option Val) (bytes : List ℕ) (x : Val × List ℕ) → cell_by p bytes ≡ Some x → behind_cell bytes ≡ Some x.1
-unfolding cell_by behind_cell
+unfolding cell_by behind_cell opening
 behind_by p [] x e = absurd cc
 behind_by p (h ∷ rest) x e = go (one_byte h) refl
   where
@@ -31,7 +33,7 @@ behind_by p (h ∷ rest) x e = go (one_byte h) refl
         rw k (ap (λ (z : Val × List ℕ). Some z.1) (some_is _ _ m))
     go None k = rw k (by_head (head_at (h ∷ rest)) (rw k at e))
       where
-        by_head : (o : Option (ℕ × ℕ × List ℕ)) → option_and_then (λ y. option_map (λ v. (v, drop y.1 y.2)) (p y.0 (take y.1 y.2))) o ≡ Some x → option_map (λ y. drop y.1 y.2) o ≡ Some x.1
+        by_head : (o : Option (ℕ × ℕ × List ℕ)) → option_and_then (λ y. option_map (λ v. (v, drop y.1 y.2)) (p y.0 (take y.1 y.2))) o ≡ Some x → option_map (λ (y : Tag × ℕ × List ℕ). drop y.1 y.2) (option_map (λ (y : ℕ × ℕ × List ℕ). (tag_of_type y.0, y.1, y.2)) o) ≡ Some x.1
         by_head None e = absurd cc
         by_head (Some y) e =
             let m = map_is (λ (v : Val). (v, drop y.1 y.2)) (p y.0 (take y.1 y.2)) x e in
@@ -113,7 +115,7 @@ none_found last (b ∷ bs) legal k =
     absurd (none_is _ (k ∙ behind_is (blank_table last) 127 (b ∷ bs) r.0 r.1))
 
 pub some_found : (bytes rest : List ℕ) → Some rest ≡ behind_cell bytes → 0 < length bytes
-unfolding behind_cell
+unfolding behind_cell opening
 some_found [] rest k = absurd cc
 some_found (b ∷ bs) rest k = omega arith
 

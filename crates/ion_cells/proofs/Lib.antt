@@ -4,8 +4,13 @@ pub mod Checks
 pub mod Going
 pub mod Moments
 pub mod PairSteps
+pub mod Parts
 pub mod Payloads
-pub mod Readers
 pub mod Signed
 pub mod Stands
 pub mod Symbols
+pub mod SymbolCells
+pub mod Openings
+pub mod Holding
+pub mod Wholes
+pub mod Denoting

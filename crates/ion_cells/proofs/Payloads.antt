@@ -1,5 +1,5 @@
 -- What a payload of each type denotes.
-use Rattle.std.proofs.Common.{◌≡◌, ◌⊎◌, ℕ, zero, suc, ◌-◌, ◌+◌, ◌^◌, ◌<◌, ◌≤◌, ℤ, pos, negsuc, Bool, true, false, cond, List, [], ◌∷◌, length, take, drop, get_or, Option, Some, None, eqb, ltb, refl, sym, ap, ◌∙◌, arith, inl, inr}
+use Rattle.std.proofs.Common.{◌≡◌, ℕ, zero, suc, ◌-◌, ◌^◌, ◌<◌, ◌≤◌, ℤ, pos, negsuc, Bool, true, false, cond, List, [], ◌∷◌, length, take, drop, get_or, Some, eqb, ltb, refl, sym, ap, ◌∙◌, arith, inl, inr}
 use Rattle.std.proofs.Math.Seq.{take-length}
 use Rattle.std.specs.Option.{option_map}
 use Rattle.std.specs.Prelude.{is_some}
@@ -18,7 +18,7 @@ use Rattle.block_meaning.proofs.CellSteps.{head_shrinks}
 use Rattle.block_meaning.proofs.LastSymbol.{length_blank}
 use Rattle.ion_cells.specs.Standing.{HasLast}
 use Rattle.ion_cells.specs.Steps.{payload_to}
-use Rattle.ion_cells.specs.Parts.{IsAlone, HasPart}
+use Rattle.ion_cells.proofs.Parts.{IsAlone, HasPart}
 use Rattle.ion_cells.proofs.Answered.{there}
 use Rattle.ion_cells.proofs.Checks.{by_head, by_byte}
 use Rattle.ion_cells.proofs.PairSteps.{cell_to_is}
@@ -154,9 +154,6 @@ module _ (last : ℕ) (bytes : List ℕ) (legal : is_cell (blank_table last) byt
     read : (table : Table) → HasLast table last → with_payload (payload_to table 128) bytes ≡ Some (cell_value table bytes, [])
     read table h = sym (by_head table 128 bytes 0 some_bytes e) ∙ legal_read table last bytes legal h
 
-    pub no_head_here : head_at bytes ≡ None → IsAlone last bytes
-    no_head_here k = absurd (none_is _ (rw k at (read (blank_table last) size)))
-
     module _ (t n : ℕ) (payload : List ℕ) (k : head_at bytes ≡ Some (t, n, payload)) where
       parted : (table : Table) → HasLast table last → (v : Val) × (payload_to table 128 t (take n payload) ≡ Some v) × (ended v (drop n payload) ≡ ended (cell_value table bytes) [])
       parted table h =
@@ -178,20 +175,3 @@ module _ (last : ℕ) (bytes : List ℕ) (legal : is_cell (blank_table last) byt
                 let w : take n payload ≡ payload = ap (λ (m : ℕ). take m payload) count_is ∙ take-length payload in
                 ap (λ (z : List ℕ). payload_to table 128 t z) (sym w) ∙ p.1 ∙ ap (λ (x : Val × List ℕ). Some x.0) p.2;
           }
-
-    pub part_is : (t n start : ℕ) → head_at bytes ≡ Some (t, n, drop start bytes) → HasPart last bytes t (take (start + n - start) (drop start bytes))
-    part_is t n start k =
-        let m : start + n - start ≡ n = omega arith in
-        let w : take (start + n - start) (drop start bytes) ≡ drop start bytes = rw (m, count_is t n (drop start bytes) k) (take-length (drop start bytes)) in
-        rw w (has_part t n (drop start bytes) k)
-
-  pub shape : IsAlone last bytes ⊎ ((t : ℕ) × (p : List ℕ) × HasPart last bytes t p)
-  shape = go (is_some (one_byte (get_or bytes 0 0))) refl
-    where
-      behind : is_some (one_byte (get_or bytes 0 0)) ≡ false → (o : Option (ℕ × ℕ × List ℕ)) → head_at bytes ≡ o → IsAlone last bytes ⊎ ((t : ℕ) × (p : List ℕ) × HasPart last bytes t p)
-      behind e None k = inl (no_head_here e k)
-      behind e (Some x) k = inr (x.0, x.2, has_part e x.0 x.1 x.2 k)
-
-      go : (b : Bool) → is_some (one_byte (get_or bytes 0 0)) ≡ b → IsAlone last bytes ⊎ ((t : ℕ) × (p : List ℕ) × HasPart last bytes t p)
-      go true e = inl (alone e)
-      go false e = behind e (head_at bytes) refl

@@ -1,9 +1,10 @@
 -- Cells and pairs end to end, as they stand within a cell.
-use Rattle.std.specs.Prelude.{ℕ, Bool, List, [], ◌∷◌, length, drop, Option, Some, None, is_some, unwrap_or, if◌then◌else◌}
+use Rattle.std.specs.Prelude.{ℕ, Bool, List, [], length, drop, Option, Some, None, is_some, unwrap_or}
 use Rattle.std.specs.Option.{option_map}
 use Rattle.value_meaning.specs.Val.{Val, Vals, Fields, items, pairs}
 use Rattle.block_meaning.specs.Tables.{Table, text_of}
-use Rattle.block_meaning.specs.CellReading.{one_byte, head_at, cell_to, cells_by, pairs_by, blank_table}
+use Rattle.block_meaning.specs.CellReading.{cell_to, cells_by, pairs_by, blank_table}
+use Rattle.ion_cells.specs.Tags.{opening}
 
 -- the bytes are cells that may stand in a list
 unfoldable pub are_items : ℕ → List ℕ → Bool
@@ -37,7 +38,6 @@ name_of table n = unwrap_or (text_of table n) []
 abbrev pub named : Table → ℕ → Val → List ℕ × Val
 named table n v = (name_of table n, v)
 
--- what follows the first cell, by its head alone
+-- what follows the first cell, by its first bytes alone
 unfoldable pub behind_cell : List ℕ → Option (List ℕ)
-behind_cell [] = None
-behind_cell (h ∷ rest) = if is_some (one_byte h) then Some rest else option_map (λ x. drop x.1 x.2) (head_at (h ∷ rest))
+behind_cell bytes = option_map (λ x. drop x.1 x.2) (opening bytes)

@@ -1,10 +1,11 @@
 -- What a borrowed cell shows.
-use Rattle.std.specs.Prelude.{ℕ, Bool, List, Option, Some, is_some}
+use Rattle.std.specs.Prelude.{ℕ, Bool, List, drop, Option, Some, is_some}
 use Rattle.value_meaning.specs.Val.{Val}
 use Rattle.block_meaning.specs.Tables.{Table}
 use Rattle.block_meaning.specs.CellReading.{cell_value}
 use Rattle.block_meaning.specs.Blocks.{only_payload}
 use Rattle.ion_cells.specs.declared.cell.Cell.{Cell}
+use Rattle.ion_cells.specs.declared.tag.Tag.{Tag}
 use Rattle.ion_cells.specs.Standing.{HasLast}
 
 -- the bytes of the cell
@@ -14,6 +15,13 @@ cell_bytes cell = cell.bytes.now
 -- the last number of the tables under which it is a cell
 unfoldable pub cell_last : Cell → ℕ
 cell_last cell = cell.last
+
+-- what the first bytes of the cell say, and what stands behind them
+unfoldable pub cell_tag : Cell → Tag
+cell_tag cell = cell.tag
+
+unfoldable pub cell_content : Cell → List ℕ
+cell_content cell = drop cell.start cell.bytes.now
 
 -- the cell is one under the table
 abbrev pub Fits : Table → Cell → Type 0

@@ -6,6 +6,7 @@ ghost use Rattle.ion_cells.specs.Steps.{payload_to, pair_by};
 use crate::heads::head;
 use crate::numbers::var_uint;
 use crate::scalars::{is_one_byte, is_scalar, is_symbol};
+use crate::types::{LIST, STRUCT};
 
 /// The place after the cell that begins at the place `at`, within which lists and structs may stand `room` deep. The
 /// last number of the table is `last`.
@@ -40,9 +41,9 @@ fn is_payload(kind: u8, payload: &[u8], last: u32, room: u8) -> bool
 {
     if room == 0 {
         is_scalar(kind, payload, last)
-    } else if kind == 11 {
+    } else if kind == LIST {
         are_cells(payload, last, room - 1)
-    } else if kind == 13 {
+    } else if kind == STRUCT {
         are_pairs(payload, last, room - 1)
     } else {
         is_scalar(kind, payload, last)

@@ -4,6 +4,7 @@ ghost use Rattle.block_meaning.specs.CellReading.{counted, head_at};
 ghost use Rattle.block_meaning.specs.Blocks.{payload_of, only_payload};
 
 use crate::numbers::var_uint;
+use crate::types::{STRUCT, STRUCT_IN_ORDER};
 
 /// What the first bytes of a cell say.
 #[derive(Clone, Copy, Debug, PartialEq, Eq)]
@@ -22,7 +23,7 @@ pub struct CellHead {
 fn counted(bytes: &[u8], at: usize, kind: u8, least: u32) -> Option<CellHead>
     requires { at ≤ length bytes.now }
     ensures head { option_map (λ h. (h.kind, h.count, drop h.start bytes.now)) result ≡ counted kind least (drop at bytes.now) }
-    ensures within { IfSome result (λ h. (at < h.start) × (h.start + h.count ≤ length bytes.now)) }
+    ensures within { IfSome result (λ h. (at < h.start) × (h.start + h.count ≤ length bytes.now) × (h.start ≤ at + 4)) }
 {
     let (count, start) = var_uint(bytes, at)?;
     if count < least || bytes.len() - start < count as usize {
@@ -43,14 +44,14 @@ fn counted(bytes: &[u8], at: usize, kind: u8, least: u32) -> Option<CellHead>
 pub fn head(bytes: &[u8], at: usize) -> Option<CellHead>
     requires { at ≤ length bytes.now }
     ensures head { option_map (λ h. (h.kind, h.count, drop h.start bytes.now)) result ≡ head_at (drop at bytes.now) }
-    ensures within { IfSome result (λ h. (at < h.start) × (h.start + h.count ≤ length bytes.now)) }
+    ensures within { IfSome result (λ h. (at < h.start) × (h.start + h.count ≤ length bytes.now) × (h.start ≤ at + 5)) }
 {
     if at >= bytes.len() {
         return None;
     }
     let first = bytes[at];
-    if first == 209 {
-        counted(bytes, at + 1, 13, 1)
+    if first == STRUCT_IN_ORDER {
+        counted(bytes, at + 1, STRUCT, 1)
     } else if first % 16 < 14 {
         let count = usize::from(first % 16);
         if bytes.len() - (at + 1) < count {

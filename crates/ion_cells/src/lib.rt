@@ -3,19 +3,23 @@
 
 mod cell;
 mod check;
+mod content;
+mod front;
 mod fronts;
 mod heads;
 mod iterators;
 mod kind;
 mod numbers;
-mod parts;
 mod places;
 mod scalars;
+mod tag;
 #[cfg(test)]
 mod tests;
 mod times;
+pub mod types;
 
 pub use cell::Cell;
+pub use content::Content;
 pub use heads::{CellHead, head, only_payload, payload};
 pub use iterators::{Cells, Fields};
 pub use kind::Kind;

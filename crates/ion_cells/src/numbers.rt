@@ -8,7 +8,7 @@ ghost use Rattle.block_meaning.specs.Numbers as spec;
 pub fn var_uint(bytes: &[u8], at: usize) -> Option<(u32, usize)>
     requires { at ≤ length bytes.now }
     ensures number { option_map (λ x. (x.0, drop x.1 bytes.now)) result ≡ spec.var_uint (drop at bytes.now) }
-    ensures within { IfSome result (λ x. (at < x.1) × (x.1 ≤ length bytes.now) × (x.0 < 2 ^ 28)) }
+    ensures within { IfSome result (λ x. (at < x.1) × (x.1 ≤ length bytes.now) × (x.0 < 2 ^ 28) × (x.1 ≤ at + 4)) }
 {
     let mut number = 0u32;
     for i in 0..4usize {

@@ -5,6 +5,7 @@ ghost use Rattle.block_meaning.specs.CellReading.{one_byte, scalar, blank_table}
 
 use crate::numbers::magnitude;
 use crate::times::micros_of;
+use crate::types::{FALSE, NEGATIVE, STRING, SYMBOL, TIMESTAMP, TRUE, WHOLE};
 use simdutf8::basic;
 
 /// Whether the byte alone is a cell: a null, false or true.
@@ -15,7 +16,7 @@ pub(crate) fn is_one_byte(byte: u8) -> bool
 {
     matches!(
         byte,
-        15 | 16 | 17 | 31 | 47 | 63 | 111 | 127 | 143 | 191 | 223
+        FALSE | TRUE | 0x0F | 0x1F | 0x2F | 0x3F | 0x6F | 0x7F | 0x8F | 0xBF | 0xDF
     )
 }
 
@@ -45,11 +46,11 @@ pub(crate) fn is_scalar(kind: u8, payload: &[u8], last: u32) -> bool
     ensures { result ≡ is_some (scalar (blank_table last) kind payload.now) }
 {
     match kind {
-        2 => payload.len() <= 8 && magnitude(payload) < 1 << 63,
-        3 => payload.len() <= 8 && matches!(magnitude(payload), 1..=0x8000_0000_0000_0000),
-        6 => micros_of(payload).is_some(),
-        7 => payload.len() <= 4 && is_symbol(magnitude(payload), last),
-        8 => is_text(payload),
+        WHOLE => payload.len() <= 8 && magnitude(payload) < 1 << 63,
+        NEGATIVE => payload.len() <= 8 && matches!(magnitude(payload), 1..=0x8000_0000_0000_0000),
+        TIMESTAMP => micros_of(payload).is_some(),
+        SYMBOL => payload.len() <= 4 && is_symbol(magnitude(payload), last),
+        STRING => is_text(payload),
         _ => false,
     }
 }

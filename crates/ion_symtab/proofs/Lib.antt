@@ -1,5 +1,4 @@
 pub mod Lookups
 pub mod TextsRead
 pub mod TableRead
-pub mod CellKinds
 pub mod Members

@@ -1,18 +1,13 @@
 -- The items of lists and the pairs of structs, taken one by one.
-use Rattle.std.proofs.Common.{◌≡◌, ℕ, ◌+◌, ◌-◌, ◌<◌, ◌≤◌, Bool, List, [], ◌∷◌, ◌++◌, Some, None, refl, sym, ap, subst, ◌∙◌, arith}
+use Rattle.std.proofs.Common.{◌≡◌, ℕ, ◌+◌, ◌-◌, ◌<◌, ◌≤◌, List, [], ◌∷◌, ◌++◌, Some, None, sym, ap, subst, ◌∙◌, arith}
 use Rattle.std.proofs.lemmas.List.{append_assoc}
 use Rattle.std.specs.Prelude.{unwrap_or}
-use Rattle.value_meaning.specs.Val.{Val, Vals, Fields, list, struct, size, vals_size, fields_size, vals, fields, items, pairs}
+use Rattle.value_meaning.specs.Val.{Val, size, vals_size, fields_size, vals, fields}
 use Rattle.value_meaning.specs.Pairs.{IsBelow, IsAboveLast}
 use Rattle.block_meaning.specs.Tables.{Table, TextsRise, text_of}
-use Rattle.block_meaning.proofs.Answered.{some_is, none_is}
-use Rattle.block_meaning.proofs.BlockReading.{vals-items}
+use Rattle.block_meaning.proofs.Answered.{none_is}
 use Rattle.block_meaning.proofs.Symbols.{text_of_some, text_of_range, text_of_is}
-use Rattle.ion_cells.specs.declared.kind.Kind.TheVariants as kinds
-use Rattle.ion_cells.specs.Kinds.{kind_of}
 use Rattle.ion_cells.specs.Standing.{HasLast}
-use Rattle.ion_cells.specs.Values.{items_in, pairs_in}
-use Rattle.ion_symtab.proofs.CellKinds.{meant}
 use Rattle.ion_symtab.proofs.Lookups.{rising}
 
 -- a member is smaller than what holds it
@@ -40,30 +35,6 @@ pair_smaller done p after left whole e f =
 pub one_more : {A : Type 0} (done next : List A) (x y : A) (after left whole : List A) → left ≡ x ∷ after → done ++ left ≡ whole → y ≡ x → next ≡ done ++ y ∷ [] → next ++ after ≡ whole
 one_more done next x y after left whole e f same pushed =
     ap (λ ys. ys ++ after) pushed ∙ append_assoc done (y ∷ []) after ∙ ap (λ z. done ++ z ∷ after) same ∙ ap (λ zs. done ++ zs) (sym e) ∙ f
-
--- what a list and a struct hold
-
-fields-pairs : (fs : Fields) → fields (pairs fs) ≡ fs
-fields-pairs Rattle.value_meaning.specs.Val.no_fields = refl
-fields-pairs (Rattle.value_meaning.specs.Val.field n v fs) = ap (Rattle.value_meaning.specs.Val.field n v) (fields-pairs fs)
-
-pub listed : (symbol : Bool) (v : Val) (left : List Val) → kinds.List ≡ kind_of symbol v → Some left ≡ items_in v → v ≡ list (vals left)
-listed symbol v left k e =
-    let m = meant kinds.List symbol v k in
-    let same : left ≡ items m.0 = some_is _ _ (e ∙ ap items_in m.1) in
-    m.1 ∙ ap list (sym (ap vals same ∙ vals-items m.0))
-
-pub structured : (symbol : Bool) (v : Val) (left : List (List ℕ × Val)) → kinds.Struct ≡ kind_of symbol v → Some left ≡ pairs_in v → v ≡ struct (fields left)
-structured symbol v left k e =
-    let m = meant kinds.Struct symbol v k in
-    let same : left ≡ pairs m.0 = some_is _ _ (e ∙ ap pairs_in m.1) in
-    m.1 ∙ ap struct (sym (ap fields same ∙ fields-pairs m.0))
-
-pub list_size : (symbol : Bool) (v : Val) (left : List Val) → kinds.List ≡ kind_of symbol v → Some left ≡ items_in v → size v ≡ vals_size (vals left)
-list_size symbol v left k e = ap size (listed symbol v left k e)
-
-pub struct_size : (symbol : Bool) (v : Val) (left : List (List ℕ × Val)) → kinds.Struct ≡ kind_of symbol v → Some left ≡ pairs_in v → size v ≡ fields_size (fields left)
-struct_size symbol v left k e = ap size (structured symbol v left k e)
 
 -- labels and their texts
 

@@ -2,6 +2,7 @@ ghost use Rattle.std.specs.Prelude.{◌≡◌};
 ghost use Rattle.std.specs.Option.{option_map};
 ghost use Rattle.block_meaning.specs.Blocks.{listed_in, texts_in};
 
+use ion_cells::types::{LIST, STRUCT};
 use ion_cells::{only_payload, var_uint};
 
 /// The cells of the texts in the struct of the one pair 7 that the bytes are.
@@ -9,10 +10,10 @@ use ion_cells::{only_payload, var_uint};
 fn listed(cell: &[u8]) -> Option<&[u8]>
     ensures { option_map (λ p. p.now) result ≡ listed_in cell.now }
 {
-    let pair = only_payload(13, cell)?;
+    let pair = only_payload(STRUCT, cell)?;
     let (label, start) = var_uint(pair, 0)?;
     if label == 7 {
-        only_payload(11, &pair[start..])
+        only_payload(LIST, &pair[start..])
     } else {
         None
     }

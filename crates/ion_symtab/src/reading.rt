@@ -8,6 +8,7 @@ use crate::parts::text_cells;
 use crate::table::SymTab;
 use crate::texts::texts_of;
 use ion_cells::payload;
+use ion_cells::types::ANNOTATION;
 use std::alloc::Global;
 
 /// The texts of the symbol table at the front, and what follows it.
@@ -16,7 +17,7 @@ fn table_front<'b>(alloc: Global, bytes: &'b [u8]) -> Result<(Vec<&'b str>, &'b 
     ensures reads { IfOk result (λ r. table_at bytes.now ≡ Some (map (λ s. s.now) r.0.items, r.1.now)) }
     ensures bad { IsErrOf result TabFault.BadTable → table_at bytes.now ≡ None }
 {
-    match payload(14, bytes) {
+    match payload(ANNOTATION, bytes) {
         None => Err(TabFault::BadTable),
         Some((content, rest)) => match text_cells(content) {
             None => Err(TabFault::BadTable),

@@ -1,6 +1,7 @@
 ghost use Rattle.std.specs.Prelude.{◌≡◌, ℕ, ◌<◌, ◌^◌, Some, None, length, map, IfSome};
 ghost use Rattle.std.specs.Option.{option_map, IfNone};
 ghost use Rattle.block_meaning.specs.Tables as tables;
+ghost use Rattle.ion_cells.specs.Left.{name_of};
 ghost use Rattle.ion_symtab.specs.Laws.{NumbersHaveTexts};
 
 use std::marker::Model;
@@ -51,6 +52,14 @@ impl<'b> SymTab<'b> {
             return None;
         }
         self.texts.get((number - 10) as usize).copied()
+    }
+
+    /// The text of the number, empty where it has none.
+    #[inline(always)]
+    pub fn name_of(&self, number: u32) -> &'b str
+        ensures { result.now ≡ name_of self.now number }
+    {
+        self.text_of(number).unwrap_or("")
     }
 
     /// The last number, 9 where the table has no text.

@@ -6,6 +6,7 @@ ghost use Rattle.ion_symtab.specs.TextCells.{text_by};
 
 use crate::fault::TabFault;
 use ion_cells::head;
+use ion_cells::types::STRING;
 use simdutf8::basic;
 use std::alloc::Global;
 
@@ -37,7 +38,7 @@ fn text_bytes(bytes: &[u8], at: usize) -> Option<(&[u8], usize)>
     ensures within { IfSome result (λ p. (at < p.1) × (p.1 ≤ length bytes.now)) }
 {
     let head = head(bytes, at)?;
-    if head.kind == 8 {
+    if head.kind == STRING {
         let end = head.start + head.count;
         Some((&bytes[head.start..end], end))
     } else {

@@ -1,66 +1,13 @@
-ghost use Rattle.std.specs.Prelude.{◌≡◌, ◌≢◌, IfOk};
-ghost use Rattle.value_meaning.specs.Val.{text};
+ghost use Rattle.std.specs.Prelude.{◌≡◌, IfOk};
 ghost use Rattle.snel_values.specs.View.{view};
 ghost use Rattle.ion_cells.specs.Standing.{HasLast};
-ghost use Rattle.ion_cells.specs.Shown.{Fits, shown, is_symbol_cell};
-ghost use Rattle.ion_cells.specs.Kinds.{kind_of};
+ghost use Rattle.ion_cells.specs.Shown.{Fits, shown};
 ghost use Rattle.ion_cells.specs.Iterating.{items_last, values_left, fields_last, fields_low, pairs_left};
 
 use crate::table::SymTab;
-use ion_cells::{Cell, Cells, Fields, Kind};
+use ion_cells::{Cell, Cells, Content, Fields};
 use snel_values::{Items, OutOfMemory, Pairs, Text, Value};
 use std::alloc::Global;
-
-/// The text whose number stands in the cell.
-fn symbol_text<'b>(cell: &Cell<'_>, table: &SymTab<'b>) -> &'b str
-    requires fits { Fits table.now cell.now }
-    requires symbol { Kind.Symbol ≡ kind_of (is_symbol_cell cell.now) (shown table.now cell.now) }
-    ensures { text result.now ≡ shown table.now cell.now }
-{
-    match cell.symbol() {
-        Some(number) => match table.text_of(number) {
-            Some(found) => found,
-            None => unreachable!(),
-        },
-        None => unreachable!(),
-    }
-}
-
-/// The value of a cell of this kind, which is no list and no struct.
-fn scalar_of(
-    alloc: Global,
-    cell: &Cell<'_>,
-    kind: Kind,
-    table: &SymTab<'_>,
-) -> Result<Value, OutOfMemory>
-    requires fits { Fits table.now cell.now }
-    requires kind { kind ≡ kind_of (is_symbol_cell cell.now) (shown table.now cell.now) }
-    requires no_list { kind ≢ Kind.List }
-    requires no_struct { kind ≢ Kind.Struct }
-    ensures { IfOk result (λ v. view v ≡ shown table.now cell.now) }
-{
-    let _bytes = cell.bytes();
-    match kind {
-        Kind::Bool => match cell.boolean() {
-            Some(truth) => Ok(Value::Bool(truth)),
-            None => unreachable!(),
-        },
-        Kind::Int => match cell.int() {
-            Some(number) => Ok(Value::Int(i128::from(number))),
-            None => unreachable!(),
-        },
-        Kind::Time => match cell.micros() {
-            Some(micros) => Ok(Value::Time(micros)),
-            None => unreachable!(),
-        },
-        Kind::Text => match cell.text() {
-            Some(found) => Ok(Value::Text(Text::of(alloc, found)?)),
-            None => unreachable!(),
-        },
-        Kind::Symbol => Ok(Value::Text(Text::of(alloc, symbol_text(cell, table))?)),
-        _ => Ok(Value::Null),
-    }
-}
 
 /// The value that the cell denotes under the table.
 #[cycle(value_of)]
@@ -68,16 +15,15 @@ pub fn value_of(alloc: Global, cell: &Cell<'_>, table: &SymTab<'_>) -> Result<Va
     requires { Fits table.now cell.now }
     ensures { IfOk result (λ v. view v ≡ shown table.now cell.now) }
 {
-    match cell.kind() {
-        Kind::List => match cell.items() {
-            Some(cells) => Ok(Value::List(items_of(alloc, cells, table)?)),
-            None => unreachable!(),
-        },
-        Kind::Struct => match cell.fields() {
-            Some(fields) => Ok(Value::Struct(pairs_of(alloc, fields, table)?)),
-            None => unreachable!(),
-        },
-        kind => scalar_of(alloc, cell, kind, table),
+    match cell.content() {
+        Content::Null => Ok(Value::Null),
+        Content::Bool(truth) => Ok(Value::Bool(truth)),
+        Content::Int(number) => Ok(Value::Int(i128::from(number))),
+        Content::Time(micros) => Ok(Value::Time(micros)),
+        Content::Symbol(number) => Ok(Value::Text(Text::of(alloc, table.name_of(number))?)),
+        Content::Text(text) => Ok(Value::Text(Text::of(alloc, text)?)),
+        Content::List(cells) => Ok(Value::List(items_of(alloc, cells, table)?)),
+        Content::Struct(pairs) => Ok(Value::Struct(pairs_of(alloc, pairs, table)?)),
     }
 }
 

@@ -1,7 +1,7 @@
 -- Values with texts, item by item and pair by pair.
 use Rattle.std.proofs.Common.{◌≡◌, ℕ, List, ◌∷◌, sym, subst}
 use Rattle.value_meaning.specs.Val.{Val, vals, fields}
-use Rattle.block_meaning.specs.Laws.{HasTimesInRange, HaveTimesInRange, PairsHaveTimesInRange}
+use Rattle.block_meaning.specs.Stored.{HasTimesInRange, HaveTimesInRange, PairsHaveTimesInRange}
 use Rattle.json_out.specs.NoMissing.{HasNoMissing, HaveNoMissing, PairsHaveNoMissing}
 
 -- the value has a text

@@ -3,7 +3,7 @@ use Rattle.std.proofs.Common.{◌≡◌, ℕ, zero, suc, ◌+◌, ◌<◌, ◌�
 use Rattle.std.specs.Option.{option_map}
 use Rattle.json.specs.Print.{quoted}
 use Rattle.value_meaning.specs.Val.{Val, vals, fields, size, vals_size, fields_size}
-use Rattle.block_meaning.specs.Laws.{HasTimesInRange, HaveTimesInRange, PairsHaveTimesInRange}
+use Rattle.block_meaning.specs.Stored.{HasTimesInRange, HaveTimesInRange, PairsHaveTimesInRange}
 use Rattle.answer_meaning.specs.Lines.{comma_if, value_text, items_text, fields_text}
 use Rattle.json_out.specs.NoMissing.{HasNoMissing, HaveNoMissing, PairsHaveNoMissing}
 

@@ -1,7 +1,7 @@
 ghost use Rattle.std.specs.Prelude.{◌↔◌, IsTrue};
 ghost use Rattle.value_meaning.specs.Val.{vals, fields};
 ghost use Rattle.time_meaning.specs.Moments as moments;
-ghost use Rattle.block_meaning.specs.Laws.{HasTimesInRange, HaveTimesInRange, PairsHaveTimesInRange};
+ghost use Rattle.block_meaning.specs.Stored.{HasTimesInRange, HaveTimesInRange, PairsHaveTimesInRange};
 ghost use Rattle.snel_values.specs.View.{view};
 ghost use Rattle.json_out.specs.NoMissing.{HasNoMissing, HaveNoMissing, PairsHaveNoMissing};
 

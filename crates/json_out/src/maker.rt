@@ -4,7 +4,7 @@ ghost use Rattle.answer_meaning.specs.Lines.{value_text, line_text};
 ghost use Rattle.ion_cells.specs.Shown.{Fits, shown};
 ghost use Rattle.json_out.specs.Begun.{begun, pair_text, pair_if_any, pair_text_if_any};
 ghost use Rattle.json_out.specs.NoMissing.{HasNoMissing, IsMissingAtMostAtTop};
-ghost use Rattle.block_meaning.specs.Laws.{HasTimesInRange};
+ghost use Rattle.block_meaning.specs.Stored.{HasTimesInRange};
 ghost use Rattle.snel_values.specs.View.{view};
 
 use crate::checks::has_text;

@@ -1,6 +1,6 @@
 ghost use Rattle.std.specs.Prelude.{◌≡◌, ◌∷◌, ◌++◌, ◌+◌, ◌<◌, drop, length, OnOk};
 ghost use Rattle.value_meaning.specs.Val.{list, struct, vals, fields};
-ghost use Rattle.block_meaning.specs.Laws.{HasTimesInRange, HaveTimesInRange, PairsHaveTimesInRange};
+ghost use Rattle.block_meaning.specs.Stored.{HasTimesInRange, HaveTimesInRange, PairsHaveTimesInRange};
 ghost use Rattle.answer_meaning.specs.Lines.{comma_if, value_text};
 ghost use Rattle.snel_values.specs.View.{view};
 ghost use Rattle.json_out.specs.NoMissing.{HasNoMissing, HaveNoMissing, PairsHaveNoMissing};

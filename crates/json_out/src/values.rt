@@ -8,7 +8,7 @@ ghost use Rattle.ion_cells.specs.Iterating.{items_last, values_left, fields_last
 use crate::numbers::put_number;
 use crate::texts::put_quoted;
 use crate::times::put_quoted_time;
-use ion_cells::{Cell, Cells, Fields, Kind};
+use ion_cells::{Cell, Cells, Content, Fields};
 use ion_symtab::SymTab;
 use snel_values::{Bytes, OutOfMemory};
 
@@ -18,41 +18,16 @@ pub fn put_value(into: &mut Bytes, table: &SymTab<'_>, cell: &Cell<'_>) -> Resul
     requires { Fits table.now cell.now }
     ensures { OnOk result (into.new ≡ into.old ++ value_text (shown table.now cell.now)) }
 {
-    let _ = cell.bytes();
-    match cell.kind() {
-        Kind::Null => into.push_all(b"null"),
-        Kind::Bool => match cell.boolean() {
-            Some(true) => into.push_all(b"true"),
-            Some(false) => into.push_all(b"false"),
-            None => unreachable!(),
-        },
-        Kind::Int => match cell.int() {
-            Some(number) => put_number(into, number),
-            None => unreachable!(),
-        },
-        Kind::Time => match cell.micros() {
-            Some(time) => put_quoted_time(into, time),
-            None => unreachable!(),
-        },
-        Kind::Text => match cell.text() {
-            Some(text) => put_quoted(into, text),
-            None => unreachable!(),
-        },
-        Kind::Symbol => match cell.symbol() {
-            Some(number) => match table.text_of(number) {
-                Some(name) => put_quoted(into, name),
-                None => unreachable!(),
-            },
-            None => unreachable!(),
-        },
-        Kind::List => match cell.items() {
-            Some(cells) => put_list(into, table, cells),
-            None => unreachable!(),
-        },
-        Kind::Struct => match cell.fields() {
-            Some(pairs) => put_struct(into, table, pairs),
-            None => unreachable!(),
-        },
+    match cell.content() {
+        Content::Null => into.push_all(b"null"),
+        Content::Bool(true) => into.push_all(b"true"),
+        Content::Bool(false) => into.push_all(b"false"),
+        Content::Int(number) => put_number(into, number),
+        Content::Time(time) => put_quoted_time(into, time),
+        Content::Symbol(number) => put_quoted(into, table.name_of(number)),
+        Content::Text(text) => put_quoted(into, text),
+        Content::List(cells) => put_list(into, table, cells),
+        Content::Struct(pairs) => put_struct(into, table, pairs),
     }
 }
 
@@ -90,7 +65,7 @@ fn put_struct(
         if later {
             into.push_all(b",")?;
         }
-        put_quoted(into, table.text_of(label).unwrap_or(""))?;
+        put_quoted(into, table.name_of(label))?;
         into.push_all(b":")?;
         put_value(into, table, &cell)?;
         later = true;

@@ -2,12 +2,10 @@
 
 ghost use Rattle.std.specs.Prelude.{◌≡◌, ◌<◌, ℕ, [], IfSome, cond, nat_eq, unwrap_or, true};
 ghost use Rattle.std.specs.Str.{IsUtf8};
-ghost use Rattle.value_meaning.specs.Val.{text};
 ghost use Rattle.block_meaning.specs.Tables.{Table};
 ghost use Rattle.block_meaning.specs.CellReading.{is_cell};
-ghost use Rattle.ion_cells.specs.Kinds.{kind_of};
 ghost use Rattle.ion_cells.specs.Values.{text_in};
-ghost use Rattle.ion_cells.specs.Shown.{Fits, cell_bytes, is_symbol_cell};
+ghost use Rattle.ion_cells.specs.Shown.{Fits, cell_bytes};
 ghost use Rattle.ion_cells.specs.Shown as cells;
 ghost use Rattle.lane_base.specs.Bits.{has};
 ghost use Rattle.lane_base.specs.Shown.{IsLegal, value_under};
@@ -19,7 +17,7 @@ ghost use Rattle.lane_field.specs.Steps.{AreUnder};
 
 use crate::cells::CellLanes;
 use crate::masks::and_lane;
-use ion_cells::{Cell, Kind};
+use ion_cells::{Cell, Content};
 use ion_symtab::SymTab;
 use lane_base::{IntLanes, LaneMask, Lanes, Look, SpanLanes};
 
@@ -31,23 +29,7 @@ fn under_table<'b>(cell: Cell<'b>, table: &SymTab<'_>) -> Cell<'b>
     ensures bytes { cell_bytes result ≡ cell_bytes cell.entry }
     ensures legal { is_cell table.now (cell_bytes result) ≡ true }
 {
-    Cell::of_bytes(cell.bytes(), table.last())
-}
-
-/// The text whose number stands in the cell.
-#[inline(always)]
-fn symbol_text<'b>(cell: &Cell<'_>, table: &SymTab<'b>) -> &'b str
-    requires fits { Fits table.now cell.now }
-    requires symbol { Kind.Symbol ≡ kind_of (is_symbol_cell cell.now) (cells.shown table.now cell.now) }
-    ensures { text result.now ≡ cells.shown table.now cell.now }
-{
-    match cell.symbol() {
-        Some(number) => match table.text_of(number) {
-            Some(found) => found,
-            None => unreachable!(),
-        },
-        None => unreachable!(),
-    }
+    cell.under(table.last())
 }
 
 /// What a lane shows that the cell is loaded into.
@@ -58,28 +40,15 @@ fn look_of<'b>(cell: &Cell<'b>, table: &SymTab<'b>) -> Look<'b>
     ensures value { value_under table.now (seen result) ≡ cells.shown table.now cell.now }
     ensures legal { IsLegal table.now (seen result) }
 {
-    let bytes = cell.bytes();
-    match cell.kind() {
-        Kind::Null => Look::Null,
-        Kind::Bool => match cell.boolean() {
-            Some(truth) => Look::Bool(truth),
-            None => unreachable!(),
-        },
-        Kind::Int => match cell.int() {
-            Some(number) => Look::Int(number),
-            None => unreachable!(),
-        },
-        Kind::Time => match cell.micros() {
-            Some(micros) => Look::Time(micros),
-            None => unreachable!(),
-        },
-        Kind::Text => match cell.text() {
-            Some(found) => Look::Text(found.as_bytes()),
-            None => unreachable!(),
-        },
-        Kind::Symbol => Look::Text(symbol_text(cell, table).as_bytes()),
-        Kind::List => Look::Tree(bytes),
-        Kind::Struct => Look::Tree(bytes),
+    match cell.content() {
+        Content::Null => Look::Null,
+        Content::Bool(truth) => Look::Bool(truth),
+        Content::Int(number) => Look::Int(number),
+        Content::Time(micros) => Look::Time(micros),
+        Content::Symbol(number) => Look::Text(table.name_of(number).as_bytes()),
+        Content::Text(text) => Look::Text(text.as_bytes()),
+        Content::List(_) => Look::Tree(cell.bytes()),
+        Content::Struct(_) => Look::Tree(cell.bytes()),
     }
 }
 

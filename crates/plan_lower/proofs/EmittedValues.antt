@@ -1,13 +1,15 @@
 -- The steps of emitting an expression.
-use Rattle.std.proofs.Common.{◌≡◌, ℕ, ◌+◌, ◌<◌, refl, ap, ◌∙◌, arith, Bool, true, false, cond, ◌&&◌, List, [], ◌∷◌, ◌++◌, Some, None, Result, Ok, Err, IfOk}
+use Rattle.std.proofs.Common.{◌≡◌, ℕ, ◌+◌, ◌<◌, refl, ap, ◌∙◌, arith, Bool, true, false, cond, not, ◌&&◌, List, [], ◌∷◌, ◌++◌, Some, None, Result, Ok, Err, IfOk}
 use Rattle.std.proofs.lemmas.List.Sums.{sum_by-append}
 use Rattle.value_meaning.specs.Val.{Val}
 use Rattle.tree_meaning.specs.Tree.{Ex}
 use Rattle.eval_meaning.specs.Logic.{is_true}
+use Rattle.eval_meaning.specs.Pair.{Pair}
 use Rattle.eval_meaning.specs.Evaluation.{eval}
-use Rattle.program_meaning.specs.Instructions.{One, Two, Source, row, literal, of_one, of_two, Instr, holding, make}
-use Rattle.program_meaning.specs.Programs.{makes_mask, makes_value, mask_count, value_count, number_after, Extends}
-use Rattle.program_meaning.specs.Registers.{Lane, after, mask_at, value_at, within, one_of, two_of, source_of}
+use Rattle.program_meaning.specs.Instructions.{Instr, makes_mask}
+use Rattle.program_meaning.specs.Instructions as instr
+use Rattle.program_meaning.specs.Programs.{makes_value, mask_count, value_count, number_after, Extends}
+use Rattle.program_meaning.specs.Registers.{Lane, after, mask_at, value_at, within, in_mask, made_by}
 use Rattle.program_meaning.proofs.Programs.{mask_count-push, value_count-push}
 use Rattle.program_meaning.proofs.Persist.{extends_itself, extends_further, extends_by_one, mask_stays, value_stays, mask_made, value_made}
 use Rattle.plan_lower.specs.Emitting.{Computes, Emits, Applies, Keeps}
@@ -34,93 +36,73 @@ value_known old new r ext h =
     let e : value_count new ≡ value_count old + value_count ext.code = ap value_count ext.is ∙ sum_by-append (λ x. cond (makes_value x) 1 0) old ext.code in
     omega (arith, e, h)
 
--- the second program has one value more, which is made under mask m from this source
-pub record IsMadeLast (old new : List Instr) (m : ℕ) (from : Source) (r : ℕ) : Type 0 where
+-- the second program has one register more, which shows this in the lanes of mask m
+pub record IsMadeLast (old new : List Instr) (m : ℕ) (shown : Lane → Val) (r : ℕ) : Type 0 where
   pub extends : Extends old new
   pub made : r < value_count new
-  pub value : (l : Lane) → value_at (after l new) r ≡ within (mask_at (after l old) m) (source_of l (after l old) from)
+  pub value : (l : Lane) → mask_at (after l old) m ≡ true → value_at (after l new) r ≡ shown l
 
-pub last : {E : Type 0} (result : Result ℕ E) (old new : List Instr) (m : ℕ) (from : Source)
-    → IfOk result (λ r. new ≡ old ++ make m from ∷ []) → IfOk result (λ r. r ≡ number_after old (make m from)) → IfOk result (λ r. IsMadeLast old new m from r)
-last result old new m from grows number = if_ok_both result one grows number
-  where
-    one : (r : ℕ) → new ≡ old ++ make m from ∷ [] → r ≡ value_count old → IsMadeLast old new m from r
-    one r p n =
-        let more : value_count new ≡ value_count old + 1 = ap value_count p ∙ value_count-push old (make m from) in
-        record {
-          extends = extends_by_one old new (make m from) p;
-          made = omega (arith, n, more);
-          value = λ l. ap (value_at (after l new)) n ∙ value_made l old new (make m from) _ p refl;
-        }
+-- what an instruction makes under mask m behind a program
+abbrev pub MakesUnder : List Instr → Instr → ℕ → (Lane → Val) → Type 0
+MakesUnder old x m shown = (l : Lane) → made_by l (after l old) x ≡ in_mask (after l old) m (shown l)
 
--- the row, and a literal
-pub computes_row : (old new : List Instr) (m r : ℕ) → IsMadeLast old new m row r → Computes old new (λ v. v) m r
-computes_row old new m r h = record { extends = h.extends; made = h.made; value = h.value }
-
-pub computes_literal : (old new : List Instr) (v : Val) (m r : ℕ) → IsMadeLast old new m (literal v) r → Computes old new (λ _. v) m r
-computes_literal old new v m r h = record { extends = h.extends; made = h.made; value = h.value }
-
-pub applies_one : (old new : List Instr) (f : One) (m a r : ℕ) → IsMadeLast old new m (of_one f a) r → Applies old new (one_of f) m a r
-applies_one old new f m a r h = record { extends = h.extends; made = h.made; value = h.value }
-
--- a value within a mask, taken within it again
-within_one : (g : Val → Val) (b : Bool) (v : Val) → within b (g (within b v)) ≡ within b (g v)
-within_one g true v = refl
-within_one g false v = refl
-
-within_two : (g : Val → Val → Val) (b : Bool) (v w : Val) → within b (g (within b v) (within b w)) ≡ within b (g v w)
-within_two g true v w = refl
-within_two g false v w = refl
+pub made_last : (old new : List Instr) (x : Instr) (m : ℕ) (shown : Lane → Val) (r : ℕ) → makes_mask x ≡ false → MakesUnder old x m shown
+    → new ≡ old ++ x ∷ [] → r ≡ number_after old x → IsMadeLast old new m shown r
+made_last old new x m shown r kind makes p n =
+    let number : r ≡ value_count old = n ∙ ap (λ b. cond b (mask_count old) (value_count old)) kind in
+    let more : value_count new ≡ value_count old + 1 = ap value_count p ∙ value_count-push old x ∙ ap (λ b. value_count old + cond (not b) 1 0) kind in
+    record {
+      extends = extends_by_one old new x p;
+      made = omega (arith, number, more);
+      value = λ l h.
+          ap (value_at (after l new)) number
+          ∙ value_made l old new x _ p (makes l)
+          ∙ ap (λ b. within b (shown l)) h;
+    }
 
 module _ (old : List Instr) (m : ℕ) (known : m < mask_count old) where
+  -- a lane of the mask stays in it
+  stays_in : (mid : List Instr) (l : Lane) → Extends old mid → mask_at (after l old) m ≡ true → mask_at (after l mid) m ≡ true
+  stays_in mid l ext h = mask_stays l old mid m ext known ∙ h
+
   -- a function of what is computed
-  pub applied : (mid new : List Instr) (f g : Val → Val) (a r : ℕ) → Computes old mid f m a → Applies mid new g m a r → Computes old new (λ v. g (f v)) m r
+  pub applied : (mid new : List Instr) (f : Pair → Val) (g : Val → Val) (a r : ℕ) → Computes old mid f m a → Applies mid new g m a r → Computes old new (λ p. g (f p)) m r
   applied mid new f g a r h k =
       record {
         extends = extends_further old mid new h.extends k.extends;
         made = k.made;
-        value = λ l.
-            k.value l
-            ∙ ap2 (λ b v. within b (g v)) (mask_stays l old mid m h.extends known) (h.value l)
-            ∙ within_one g (mask_at (after l old) m) (f l.row);
+        value = λ l inside. k.value l (stays_in mid l h.extends inside) ∙ ap g (h.value l inside);
       }
 
-  pub applied_one : (mid new : List Instr) (f : Val → Val) (g : One) (a r : ℕ) → Computes old mid f m a → IsMadeLast mid new m (of_one g a) r → Computes old new (λ v. one_of g (f v)) m r
-  applied_one mid new f g a r h k = applied mid new f (one_of g) a r h (applies_one mid new g m a r k)
-
   -- a function of two that are computed one behind the other
-  pub applied_two : (mid end new : List Instr) (f g : Val → Val) (t : Two) (a b r : ℕ) → Computes old mid f m a → Computes mid end g m b → IsMadeLast end new m (of_two t a b) r
-      → Computes old new (λ v. two_of t (f v) (g v)) m r
+  pub applied_two : (mid end new : List Instr) (f g : Pair → Val) (t : Val → Val → Val) (a b r : ℕ) → Computes old mid f m a → Computes mid end g m b
+      → IsMadeLast end new m (λ l. t (value_at (after l end) a) (value_at (after l end) b)) r → Computes old new (λ p. t (f p) (g p)) m r
   applied_two mid end new f g t a b r h k last =
       let to_end = extends_further old mid end h.extends k.extends in
       record {
         extends = extends_further old end new to_end last.extends;
         made = last.made;
-        value = λ l.
-            let inside = mask_at (after l old) m in
-            let first : value_at (after l end) a ≡ within inside (f l.row) = value_stays l mid end a k.extends h.made ∙ h.value l in
-            let second : value_at (after l end) b ≡ within inside (g l.row) = k.value l ∙ ap (λ c. within c (g l.row)) (mask_stays l old mid m h.extends known) in
-            last.value l
-            ∙ ap2 within (mask_stays l old end m to_end known) (ap2 (two_of t) first second)
-            ∙ within_two (two_of t) inside (f l.row) (g l.row);
+        value = λ l inside.
+            last.value l (stays_in end l to_end inside)
+            ∙ ap2 t (value_stays l mid end a k.extends h.made ∙ h.value l inside) (k.value l (stays_in mid l h.extends inside));
       }
 
-true_within : (b : Bool) (v : Val) → (b && is_true (within b v)) ≡ (b && is_true v)
-true_within true v = refl
-true_within false v = refl
+holds_within : (b : Bool) (v w : Val) → (b ≡ true → v ≡ w) → (b && is_true v) ≡ (b && is_true w)
+holds_within true v w h = ap is_true (h refl)
+holds_within false v w h = refl
 
 -- WHERE: the mask of the lanes in which it is true
-pub keeps_holding : (old mid new : List Instr) (e : Ex) (m a k : ℕ) → m < mask_count old → Emits old mid e m a → new ≡ mid ++ holding m a ∷ [] → k ≡ mask_count mid → Keeps old new (Some e) m k
+pub keeps_holding : (old mid new : List Instr) (e : Ex) (m a k : ℕ) → m < mask_count old → Emits old mid e m a → new ≡ mid ++ instr.holding m a ∷ [] → k ≡ mask_count mid → Keeps old new (Some e) m k
 keeps_holding old mid new e m a k known h p n =
-    let more : mask_count new ≡ mask_count mid + 1 = ap mask_count p ∙ mask_count-push mid (holding m a) in
+    let more : mask_count new ≡ mask_count mid + 1 = ap mask_count p ∙ mask_count-push mid (instr.holding m a) in
     record {
-      extends = extends_further old mid new h.extends (extends_by_one mid new (holding m a) p);
+      extends = extends_further old mid new h.extends (extends_by_one mid new (instr.holding m a) p);
       made = omega (arith, n, more);
       mask = λ l.
           ap (mask_at (after l new)) n
-          ∙ mask_made l mid new (holding m a) _ p refl
-          ∙ ap2 (λ b v. b && is_true v) (mask_stays l old mid m h.extends known) (h.value l)
-          ∙ true_within (mask_at (after l old) m) (eval e l.row);
+          ∙ mask_made l mid new (instr.holding m a) _ p refl
+          ∙ ap (λ b. b && is_true (value_at (after l mid) a)) (mask_stays l old mid m h.extends known)
+          ∙ holds_within (mask_at (after l old) m) (value_at (after l mid) a) (eval e l.pair) (h.value l);
     }
 
 and_true : (b : Bool) → b ≡ (b && true)

@@ -1,4 +1,5 @@
 pub mod Items
+pub mod LiveLanes
 pub mod EmittedValues
 pub mod EmittedOutputs
 pub mod Emissions

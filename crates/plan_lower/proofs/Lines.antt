@@ -4,8 +4,8 @@ use Rattle.std.proofs.lemmas.List.{flat_map_more}
 use Rattle.std.proofs.lemmas.List.Sums.{sum_by-cons}
 use Rattle.std.specs.Prelude.{slice_get}
 use Rattle.std.specs.List.{enumerate_from, flat_map}
-use Rattle.program_meaning.specs.Instructions.{Instr}
-use Rattle.program_meaning.specs.Programs.{makes_mask, makes_value, mask_count, value_count}
+use Rattle.program_meaning.specs.Instructions.{Instr, makes_mask}
+use Rattle.program_meaning.specs.Programs.{makes_value, mask_count, value_count}
 use Rattle.program_meaning.proofs.Programs.{mask_count-push}
 use Rattle.plan_lower.specs.Listing.{instr_line, program_text}
 use Rattle.plan_lower.proofs.Items.{some_is, take_more, whole}

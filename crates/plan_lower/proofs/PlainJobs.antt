@@ -1,19 +1,20 @@
 -- From the registers of a program to what a job shows.
-use Rattle.std.proofs.Common.{◌≡◌, ℕ, zero, suc, ◌+◌, ◌<◌, Bool, true, false, ◌&&◌, List, [], ◌∷◌, map, take, drop, All, Option, Some, None, refl, ap, sym, subst, ◌∙◌, arith}
-use Rattle.std.specs.Prelude.{slice_get}
+use Rattle.std.proofs.Common.{◌≡◌, ℕ, ◌<◌, true, false, ◌&&◌, List, [], ◌∷◌, map, All, refl, ap, sym, subst, ◌∙◌, arith}
 use Rattle.std.proofs.Math.ListN.{get_or-map}
 use Rattle.std.proofs.lemmas.List.{length-map}
-use Rattle.value_meaning.specs.Val.{Val}
-use Rattle.tree_meaning.specs.Tree.{Ex, Query}
+use Rattle.tree_meaning.specs.Tree.{Query}
 use Rattle.check_meaning.specs.Names.{names}
 use Rattle.check_meaning.specs.Places.{output_exs}
 use Rattle.check_meaning.specs.Aggregates.{is_grouped}
+use Rattle.eval_meaning.specs.Pair.{Pair}
 use Rattle.eval_meaning.specs.Evaluation.{eval}
-use Rattle.program_meaning.specs.Instructions.{Instr, all}
+use Rattle.eval_meaning.specs.Passed.{is_kept}
+use Rattle.program_meaning.specs.Instructions.{Instr}
+use Rattle.program_meaning.specs.Instructions as instr
 use Rattle.program_meaning.specs.Programs.{mask_count, value_count, IsProgram}
-use Rattle.program_meaning.specs.Registers.{Lane, lane_of, State, after, mask_at, value_at, within, HasRun}
+use Rattle.program_meaning.specs.Registers.{Lane, live_lane, after, mask_at, value_at}
 use Rattle.program_meaning.specs.Jobs.{Job, AreEnds}
-use Rattle.program_meaning.specs.Simulation.{is_star, is_kept, passes, ShowsNamed, Simulates}
+use Rattle.program_meaning.specs.Simulation.{is_star, passes, ShowsNamed, Simulates}
 use Rattle.program_meaning.proofs.Persist.{mask_stays}
 use Rattle.plan_lower.specs.Forms.{is_lowered}
 use Rattle.plan_lower.specs.Emitting.{EmitsAll, Keeps}
@@ -22,59 +23,35 @@ use Rattle.plan_lower.proofs.Items.{all_nil}
 use Rattle.plan_lower.proofs.EmittedValues.{mask_known}
 use Rattle.plan_lower.proofs.PlainQueries.{IsPlain, lowered_is_plain, is_ungrouped}
 
--- the row of a place in a chunk
-in_chunk : {A : Type 0} (xs : List A) (first i n : ℕ) → i < n → slice_get (take n (drop first xs)) i ≡ slice_get xs (first + i)
-in_chunk xs zero i n h = taken xs i n h ∙ ap (slice_get xs) (omega arith)
-  where
-    taken : {A : Type 0} (xs : List A) (i n : ℕ) → i < n → slice_get (take n xs) i ≡ slice_get xs i
-    taken xs i zero h = absurd (omega (arith, h))
-    taken [] i (suc n) h = refl
-    taken (x ∷ xs) zero (suc n) h = refl
-    taken (x ∷ xs) (suc i) (suc n) h = taken xs i n (omega (arith, h))
-in_chunk [] (suc first) i zero h = absurd (omega (arith, h))
-in_chunk [] (suc first) i (suc n) h = refl
-in_chunk (x ∷ xs) (suc first) i n h = in_chunk xs first i n h ∙ ap (slice_get (x ∷ xs)) (further first i)
-  where
-    further : (m n : ℕ) → suc (m + n) ≡ suc m + n
-    further m n = omega arith
-
 mapped_twice : {A B C : Type 0} (f : A → B) (g : B → C) (xs : List A) → map g (map f xs) ≡ map (λ x. g (f x)) xs
 mapped_twice f g [] = refl
 mapped_twice f g (x ∷ xs) = ap (λ l. g (f x) ∷ l) (mapped_twice f g xs)
 
-all_within : (b : Bool) (es : List Ex) (row : Val) → b ≡ true → map (λ e. within b (eval e row)) es ≡ map (λ e. eval e row) es
-all_within b es row h = ap (λ c. map (λ e. within c (eval e row)) es) h
-
--- the program of all lanes, then of WHERE, then of the outputs
-module _ (q : Query) (lowered : is_lowered q ≡ true) (outs : List (List ℕ × ℕ)) (p1 p2 p3 : List Instr) (keep : ℕ) (is_all : p1 ≡ all ∷ []) (filtered : Keeps p1 p2 q.filter 0 keep) (emitted : EmitsAll p2 p3 (output_exs q.outs) keep (registers_of outs)) where
+-- the program of all lanes and the row, then of WHERE, then of the outputs
+module _ (q : Query) (lowered : is_lowered q ≡ true) (outs : List (List ℕ × ℕ)) (p1 p2 p3 : List Instr) (keep : ℕ) (begun : p1 ≡ instr.all ∷ instr.root 0 ∷ []) (filtered : Keeps p1 p2 q.filter 0 keep) (emitted : EmitsAll p2 p3 (output_exs q.outs) keep (registers_of outs)) where
   plain : IsPlain q
   plain = lowered_is_plain q lowered
-
-  -- the lanes that pass
-  kept_in : (l : Lane) → mask_at (after l p3) keep ≡ (l.live && is_kept q.filter l.row)
-  kept_in l =
-      mask_stays l p2 p3 keep emitted.extends filtered.made ∙ filtered.mask l ∙ ap (λ (p : List Instr). mask_at (after l p) 0 && is_kept q.filter l.row) is_all
-
-  passed : (row : Option Val) → mask_at (after (lane_of row) p3) keep ≡ passes q row
-  passed None = kept_in (lane_of None)
-  passed (Some row) = kept_in (lane_of (Some row))
-
-  pub outs_shown : (row : Val) → is_kept q.filter row ≡ true → map (λ (o : List ℕ × ℕ). value_at (after (lane_of (Some row)) p3) o.1) outs ≡ map (λ e. eval e row) (output_exs q.outs)
-  outs_shown row h =
-      let l = lane_of (Some row) in
-      let inside : mask_at (after l p2) keep ≡ true = sym (mask_stays l p2 p3 keep emitted.extends filtered.made) ∙ kept_in l ∙ h in
-      sym (mapped_twice (λ (o : List ℕ × ℕ). o.1) (λ r. value_at (after l p3) r) outs) ∙ emitted.values l ∙ all_within (mask_at (after l p2) keep) (output_exs q.outs) row inside
 
   ungrouped : is_grouped q ≡ false
   ungrouped = is_ungrouped q lowered
 
-  at_lane : (rows : List Val) (first i : ℕ) (lanes : ℕ → State) → HasRun p3 (take 16 (drop first rows)) lanes → i < 16 → lanes i ≡ after (lane_of (slice_get rows (first + i))) p3
-  at_lane rows first i lanes run h = run i h ∙ ap (λ row. after (lane_of row) p3) (in_chunk rows first i 16 h)
+  -- the lanes that pass
+  kept_in : (l : Lane) → mask_at (after l p3) keep ≡ passes q l
+  kept_in l =
+      mask_stays l p2 p3 keep emitted.extends filtered.made
+      ∙ filtered.mask l
+      ∙ ap (λ (p : List Instr). mask_at (after l p) 0 && is_kept q.filter l.pair) begun
 
-  shows_named : (s : State) (row : Val) → s ≡ after (lane_of (Some row)) p3 → is_kept q.filter row ≡ true → ShowsNamed (plain_ends keep (is_star q.outs) outs) q s row
-  shows_named s row is h =
+  outs_shown : (p : Pair) → is_kept q.filter p ≡ true → map (λ (o : List ℕ × ℕ). value_at (after (live_lane p) p3) o.1) outs ≡ map (λ e. eval e p) (output_exs q.outs)
+  outs_shown p h =
+      let l = live_lane p in
+      let inside : mask_at (after l p2) keep ≡ true = sym (mask_stays l p2 p3 keep emitted.extends filtered.made) ∙ kept_in l ∙ h in
+      sym (mapped_twice (λ (o : List ℕ × ℕ). o.1) (λ r. value_at (after l p3) r) outs) ∙ emitted.values l inside
+
+  shows_named : (p : Pair) → is_kept q.filter p ≡ true → ShowsNamed (plain_ends keep (is_star q.outs) outs) q (after (live_lane p) p3) p
+  shows_named p h =
       record {
-        outs = rw (is, ungrouped) (outs_shown row h);
+        outs = rw ungrouped (outs_shown p h);
         sorts = rw (ungrouped, plain.order) refl;
         groups = rw ungrouped refl;
         aggs = rw ungrouped refl;
@@ -106,8 +83,8 @@ module _ (q : Query) (lowered : is_lowered q ≡ true) (outs : List (List ℕ ×
         sorts = rw (ungrouped, plain.order) refl;
         groups = rw ungrouped refl;
         aggs = rw ungrouped refl;
-        kept = λ rows first lanes run i h. ap (λ s. mask_at s keep) (at_lane rows first i lanes run h) ∙ passed (slice_get rows (first + i));
-        shows = λ rows first lanes run i h row is kept. shows_named (lanes i) row (at_lane rows first i lanes run h ∙ ap (λ r. after (lane_of r) p3) is) kept;
+        kept = kept_in;
+        shows = shows_named;
       }
 
   job_is : (job : Job) → job.program ≡ p3 → job.ends ≡ plain_ends keep (is_star q.outs) outs → record { program = p3; ends = plain_ends keep (is_star q.outs) outs } ≡ job

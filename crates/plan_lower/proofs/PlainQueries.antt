@@ -8,8 +8,6 @@ use Rattle.std.proofs.lemmas.List.Folds.{list_any-append}
 use Rattle.std.specs.Prelude.{is_none, ◌==◌, ℤ, pos, negsuc}
 use Rattle.std.specs.List.{list_all, list_any, enumerate_from}
 use Rattle.value_meaning.specs.Val.{Val, missing, null, truth, int, time, text, list, struct}
-use Rattle.tree_meaning.specs.declared.BinOp.{BinOp}
-use Rattle.tree_meaning.specs.declared.BinOp.TheVariants as op
 use Rattle.tree_meaning.specs.Tree.{Ex, lit, path, neg, no, bin, is, member, between, matching, choice, cast, call, trunc, extract, shift, agg_of_rows, agg, Outs, star, named, Query}
 use Rattle.tree_meaning.specs.WellFormed.{IsNumber, IsLiteral}
 use Rattle.check_meaning.specs.Names.{items_of, names, output_name}
@@ -18,8 +16,8 @@ use Rattle.check_meaning.specs.Place.{Place, output, where_test}
 use Rattle.check_meaning.specs.Places.{output_exs, places, counted, alone}
 use Rattle.check_meaning.specs.Aggregates.{is_aggregate, has_aggregate, asks_a_group, is_grouped}
 use Rattle.eval_meaning.specs.Numbers.{fits}
-use Rattle.program_meaning.specs.Programs.{IsConstant, IsOperator}
-use Rattle.plan_lower.specs.Forms.{is_lowered_op, is_lowered_ex, is_lowered_output, are_lowered_outs, is_lowered_filter, is_lowered}
+use Rattle.program_meaning.specs.Programs.{IsConstant}
+use Rattle.plan_lower.specs.Forms.{is_lowered_ex, is_lowered_output, are_lowered_outs, is_lowered_filter, is_lowered}
 
 pub both : (a b : Bool) → (a && b) ≡ true → (a ≡ true) × (b ≡ true)
 both true true h = (refl, refl)
@@ -152,22 +150,6 @@ is_constant (time t) h = h
 is_constant (text s) h = tt
 is_constant (list vs) h = h
 is_constant (struct fs) h = h
-
--- AND and OR are operators of instructions
-pub is_operator : (o : BinOp) → is_lowered_op o ≡ true → IsOperator o
-is_operator op.And h = tt
-is_operator op.Or h = tt
-is_operator op.Add h = absurd (cc)
-is_operator op.Sub h = absurd (cc)
-is_operator op.Mul h = absurd (cc)
-is_operator op.Div h = absurd (cc)
-is_operator op.Rem h = absurd (cc)
-is_operator op.Eq h = absurd (cc)
-is_operator op.Ne h = absurd (cc)
-is_operator op.Lt h = absurd (cc)
-is_operator op.Le h = absurd (cc)
-is_operator op.Gt h = absurd (cc)
-is_operator op.Ge h = absurd (cc)
 
 -- the names of outputs
 pub names_of_star : (outs : Outs) → outs ≡ star → names outs ≡ []

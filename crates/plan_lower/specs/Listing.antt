@@ -8,12 +8,21 @@ use Rattle.tree_meaning.specs.declared.BinOp.{BinOp}
 use Rattle.tree_meaning.specs.declared.BinOp.TheVariants as op
 use Rattle.tree_meaning.specs.declared.IsWhat.{IsWhat}
 use Rattle.tree_meaning.specs.declared.IsWhat.TheVariants as what
+use Rattle.tree_meaning.specs.declared.How.{How}
+use Rattle.tree_meaning.specs.declared.How.TheVariants as how
+use Rattle.tree_meaning.specs.declared.CastTo.{CastTo}
+use Rattle.tree_meaning.specs.declared.CastTo.TheVariants as to
+use Rattle.tree_meaning.specs.declared.Func.{Func}
+use Rattle.tree_meaning.specs.declared.Func.TheVariants as func
+use Rattle.tree_meaning.specs.declared.Part.{Part}
+use Rattle.tree_meaning.specs.declared.Part.TheVariants as part
 use Rattle.tree_meaning.specs.declared.AggName.{AggName}
 use Rattle.tree_meaning.specs.declared.AggName.TheVariants as aggs
 use Rattle.print_meaning.specs.Pieces.{in_quotes}
 use Rattle.print_meaning.specs.Texts.{literal_text}
-use Rattle.program_meaning.specs.Instructions.{field, item, negation, asks, binary, Source, row, literal, of_one, of_two, Instr, all, holding, make}
-use Rattle.program_meaning.specs.Programs.{makes_mask, mask_count, value_count}
+use Rattle.program_meaning.specs.Instructions.{Instr, makes_mask}
+use Rattle.program_meaning.specs.Instructions as instr
+use Rattle.program_meaning.specs.Programs.{mask_count, value_count}
 use Rattle.program_meaning.specs.Jobs.{Ends, Job}
 
 -- a mask register and a value register
@@ -44,6 +53,35 @@ what_text what.Missing = codes "missing"
 what_text what.True = codes "true"
 what_text what.False = codes "false"
 
+unfoldable pub how_text : How → List ℕ
+how_text how.Like = codes "like"
+how_text how.ILike = codes "ilike"
+how_text how.Starts = codes "starts"
+how_text how.Ends = codes "ends"
+how_text how.Contains = codes "contains"
+
+unfoldable pub to_text : CastTo → List ℕ
+to_text to.Integer = codes "integer"
+to_text to.Boolean = codes "boolean"
+
+unfoldable pub func_text : Func → List ℕ
+func_text func.Coalesce = codes "coalesce"
+func_text func.NullIf = codes "nullif"
+func_text func.CharLength = codes "charlength"
+func_text func.UnixEpoch = codes "unixepoch"
+func_text func.UnixMicro = codes "unixmicro"
+
+unfoldable pub part_text : Part → List ℕ
+part_text part.Microsecond = codes "microsecond"
+part_text part.Second = codes "second"
+part_text part.Minute = codes "minute"
+part_text part.Hour = codes "hour"
+part_text part.Day = codes "day"
+part_text part.Week = codes "week"
+part_text part.Month = codes "month"
+part_text part.Quarter = codes "quarter"
+part_text part.Year = codes "year"
+
 unfoldable pub agg_text : AggName → List ℕ
 agg_text aggs.CountAll = codes "countall"
 agg_text aggs.Count = codes "count"
@@ -69,21 +107,36 @@ under_text word m = word ++ codes " " ++ mask_name m
 abbrev pub operand_text : ℕ → List ℕ
 operand_text r = codes " " ++ value_name r
 
--- what a value is made from
-unfoldable pub source_text : ℕ → Source → List ℕ
-source_text m row = under_text (codes "root") m
-source_text m (literal v) = under_text (codes "const") m ++ codes " " ++ constant_text v
-source_text m (of_one (field n) a) = under_text (codes "field") m ++ operand_text a ++ codes " " ++ in_quotes 34 n
-source_text m (of_one (item i) a) = under_text (codes "at") m ++ operand_text a ++ codes " " ++ decimal i
-source_text m (of_one negation a) = under_text (codes "not") m ++ operand_text a
-source_text m (of_one (asks w) a) = under_text (codes "is") m ++ codes " " ++ what_text w ++ operand_text a
-source_text m (of_two (binary o) a b) = under_text (op_text o) m ++ operand_text a ++ operand_text b
+-- a word, the mask under which a value is made, and the value that it is made of
+abbrev pub of_one_text : List ℕ → ℕ → ℕ → List ℕ
+of_one_text word m a = under_text word m ++ operand_text a
+
+-- the same of two values
+abbrev pub of_two_text : List ℕ → ℕ → ℕ → ℕ → List ℕ
+of_two_text word m a b = under_text word m ++ operand_text a ++ operand_text b
 
 -- what a register is made from
 unfoldable pub made_text : Instr → List ℕ
-made_text all = codes "all"
-made_text (holding m a) = under_text (codes "true") m ++ operand_text a
-made_text (make m from) = source_text m from
+made_text instr.all = codes "all"
+made_text (instr.holding m a) = of_one_text (codes "true") m a
+made_text (instr.minus m k) = under_text (codes "minus") m ++ codes " " ++ mask_name k
+made_text (instr.root m) = under_text (codes "root") m
+made_text (instr.field m a n) = under_text (codes "field") m ++ operand_text a ++ codes " " ++ in_quotes 34 n
+made_text (instr.at m a i) = under_text (codes "at") m ++ operand_text a ++ codes " " ++ decimal i
+made_text (instr.const m v) = under_text (codes "const") m ++ codes " " ++ constant_text v
+made_text (instr.bin m o a b) = of_two_text (op_text o) m a b
+made_text (instr.neg m a) = of_one_text (codes "neg") m a
+made_text (instr.not m a) = of_one_text (codes "not") m a
+made_text (instr.is m w a) = under_text (codes "is") m ++ codes " " ++ what_text w ++ operand_text a
+made_text (instr.first m a b) = of_two_text (codes "first") m a b
+made_text (instr.merge m k a b) = under_text (codes "merge") m ++ codes " " ++ mask_name k ++ operand_text a ++ operand_text b
+made_text (instr.matching m h a s) = of_one_text (how_text h) m a ++ codes " " ++ in_quotes 39 s
+made_text (instr.cast m c a) = under_text (codes "cast") m ++ codes " " ++ to_text c ++ operand_text a
+made_text (instr.length m f a) = of_one_text (func_text f) m a
+made_text (instr.unix m f a) = of_one_text (func_text f) m a
+made_text (instr.trunc m p a) = under_text (codes "trunc") m ++ codes " " ++ part_text p ++ operand_text a
+made_text (instr.extract m p a) = under_text (codes "extract") m ++ codes " " ++ part_text p ++ operand_text a
+made_text (instr.shift m p n a) = under_text (codes "shift") m ++ codes " " ++ part_text p ++ operand_text n ++ operand_text a
 
 -- a text and the end of its line
 abbrev pub line : List ℕ → List ℕ
@@ -122,7 +175,12 @@ unfoldable pub outs_text : Ends → List ℕ
 outs_text e = if e.star then line (codes "star") else flat_map out_line e.outs
 
 unfoldable pub ends_text : Ends → List ℕ
-ends_text e = line (codes "keep " ++ mask_name e.keep) ++ outs_text e ++ flat_map sort_line e.sorts ++ flat_map group_line e.groups ++ flat_map agg_line e.aggs
+ends_text e =
+    line (codes "keep " ++ mask_name e.keep)
+    ++ outs_text e
+    ++ flat_map sort_line e.sorts
+    ++ flat_map group_line e.groups
+    ++ flat_map agg_line e.aggs
 
 -- a line for each instruction; the mask of the rows that pass; `star` or a line for each output; and a line for each sort key,
 -- group key and aggregate

@@ -1,18 +1,58 @@
 //! Which queries are lowered.
-ghost use Rattle.std.specs.Prelude.{◌≡◌, map};
+ghost use Rattle.std.specs.Prelude.{◌≡◌};
 ghost use Rattle.std.specs.List.{list_all};
 ghost use Rattle.query_tree.specs.View.{view};
 ghost use Rattle.query_tree.specs.Queries.{outs_view, query_view};
-ghost use Rattle.std.specs.Option.{option_map};
 ghost use Rattle.plan_lower.specs.Forms as forms;
 
-use tree_meaning::BinOp;
 use query_tree::{Expr, Operand, OutItems, Outputs, Query};
+use tree_meaning::BinOp;
 
-fn is_lowered_op(op: BinOp) -> bool
-    ensures { result ≡ forms.is_lowered_op op }
+/// Whether [`lower`](crate::lower) takes the query: its outputs are `*` or expressions of literals, paths, NOT, AND, OR and
+/// IS alone, so is WHERE where it stands, there is no GROUP BY, HAVING, ORDER BY and LIMIT, and OFFSET is 0.
+#[tactic(auto, unfolding(crate::specs::Forms::is_lowered))]
+pub fn is_lowered(query: &Query) -> bool
+    ensures { result ≡ forms.is_lowered (query_view query.now) }
 {
-    matches!(op, BinOp::And | BinOp::Or)
+    are_lowered_outs(&query.outputs)
+        && is_lowered_filter(&query.filter)
+        && query.keys.len() == 0
+        && query.having.is_none()
+        && query.order.len() == 0
+        && query.take.is_none()
+        && query.skip == 0
+}
+
+fn are_lowered_outs(outputs: &Outputs) -> bool
+    ensures { result ≡ forms.are_lowered_outs (outs_view outputs.now) }
+{
+    match outputs {
+        Outputs::Star => true,
+        Outputs::Named(items) => are_lowered_items(items),
+    }
+}
+
+fn are_lowered_items(items: &OutItems) -> bool
+    ensures { result ≡ list_all forms.is_lowered_output items.now }
+{
+    for at in 0..items.len() {
+        let Some(item) = items.get(at) else {
+            unreachable!()
+        };
+        if !is_lowered_operand(&item.expr) {
+            return false;
+        }
+    }
+    true
+}
+
+fn is_lowered_filter(filter: &Option<Operand>) -> bool
+    ensures { result ≡ forms.is_lowered_filter filter.now }
+{
+    match filter {
+        None => true,
+        Some(test) => is_lowered_operand(test),
+    }
 }
 
 #[cycle(is_lowered)]
@@ -37,49 +77,8 @@ fn is_lowered_expr(expr: &Expr) -> bool
     }
 }
 
-fn are_lowered_items(items: &OutItems) -> bool
-    ensures { result ≡ list_all forms.is_lowered_output items.now }
+fn is_lowered_op(op: BinOp) -> bool
+    ensures { result ≡ forms.is_lowered_op op }
 {
-    for at in 0..items.len() {
-        let Some(item) = items.get(at) else {
-            unreachable!()
-        };
-        if !is_lowered_expr(&item.expr) {
-            return false;
-        }
-    }
-    true
-}
-
-fn are_lowered_outs(outputs: &Outputs) -> bool
-    ensures { result ≡ forms.are_lowered_outs (outs_view outputs.now) }
-{
-    match outputs {
-        Outputs::Star => true,
-        Outputs::Named(items) => are_lowered_items(items),
-    }
-}
-
-fn is_lowered_filter(filter: &Option<Expr>) -> bool
-    ensures { result ≡ forms.is_lowered_filter (option_map view filter.now) }
-{
-    match filter {
-        None => true,
-        Some(test) => is_lowered_expr(test),
-    }
-}
-
-/// Whether [`lower`](crate::lower) takes the query: its outputs are `*` or expressions of literals, paths, NOT, AND, OR and
-/// IS alone, so is WHERE where it stands, there is no GROUP BY, HAVING, ORDER BY and LIMIT, and OFFSET is 0.
-#[tactic(auto, unfolding(crate::specs::Forms::is_lowered))]
-pub fn is_lowered(query: &Query) -> bool
-    ensures { result ≡ forms.is_lowered (query_view query.now) }
-{
-    are_lowered_outs(&query.outputs)
-        && is_lowered_filter(&query.filter)
-        && query.keys.len() == 0
-        && query.having.is_none()
-        && query.order.len() == 0
-        && query.take.is_none()
-        && query.skip == 0
+    matches!(op, BinOp::And | BinOp::Or)
 }

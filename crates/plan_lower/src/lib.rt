@@ -1,4 +1,5 @@
-//! From accepted queries to jobs: which queries are lowered, the program and the ends of their jobs, and the listing of a job.
+//! From accepted queries to jobs: [`lower`] gives the job of a query that [`is_lowered`] tells, as in
+//! `lower(alloc, &checked)?`, and [`listing`] the text of a job.
 #![tactic(auto)]
 
 mod emitting;

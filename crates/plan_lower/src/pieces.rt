@@ -1,32 +1,17 @@
 //! Pieces of the text of a listing. Each is added at the end; for want of memory some of it may stand there.
 ghost use Rattle.std.specs.Prelude.{◌≡◌, ◌++◌, OnOk};
-ghost use Rattle.std.specs.Fmt.{decimal};
 ghost use Rattle.plan_lower.specs.Listing as spec;
 
-use tree_meaning::AggName;
-use itoa::Buffer;
 use snel_values::{Bytes, OutOfMemory};
-use tree_meaning::{BinOp, IsWhat};
-
-pub(crate) fn put(text: &mut Bytes, piece: &str) -> Result<(), OutOfMemory>
-    ensures { OnOk result (text.new ≡ text.old ++ piece.now) }
-{
-    text.push_all(piece.as_bytes())
-}
-
-pub(crate) fn put_digits(text: &mut Bytes, number: u64) -> Result<(), OutOfMemory>
-    ensures { OnOk result (text.new ≡ text.old ++ decimal number) }
-{
-    let mut digits = Buffer::new();
-    put(text, digits.format(number))
-}
+use sql_pieces::{put, put_digits};
+use tree_meaning::{AggName, BinOp, IsWhat};
 
 /// The name of a mask register.
 pub(crate) fn put_mask(text: &mut Bytes, number: u64) -> Result<(), OutOfMemory>
     ensures { OnOk result (text.new ≡ text.old ++ spec.mask_name number) }
 {
     put(text, "m")?;
-    put_digits(text, number)
+    put_digits(text, u128::from(number))
 }
 
 /// The name of a value register.
@@ -34,7 +19,7 @@ pub(crate) fn put_value(text: &mut Bytes, number: u64) -> Result<(), OutOfMemory
     ensures { OnOk result (text.new ≡ text.old ++ spec.value_name number) }
 {
     put(text, "r")?;
-    put_digits(text, number)
+    put_digits(text, u128::from(number))
 }
 
 /// A value register behind a space.

@@ -18,6 +18,39 @@ use query_walk::gather;
 use snel_values::OutOfMemory;
 use std::alloc::Global;
 
+/// The first of the limits on outputs and keys that is passed.
+pub(crate) fn passed_count(query: &Query) -> Option<Limit>
+    ensures some { IfSome result (λ l.
+        verdict.passed_limit (query_view query.now) ≡ Some (limit_view l)) }
+    ensures none { IfNone result (placed.IsWithin (query_view query.now)) }
+{
+    if output_count(&query.outputs) > 256 {
+        Some(Limit::Outputs)
+    } else if query.keys.len() > 16 {
+        Some(Limit::GroupKeys)
+    } else if query.order.len() > 16 {
+        Some(Limit::OrderKeys)
+    } else {
+        None
+    }
+}
+
+/// The first limit that is passed, where those on outputs and keys aren't.
+pub(crate) fn passed_limit(query: &Query, names: &Names, found: &Exprs) -> Option<Limit>
+    requires within { placed.IsWithin (query_view query.now) }
+    requires names { names.now ≡ named.names (outs_view query.now.outputs) }
+    requires found { found.now ≡ aggs.aggregates (query_view query.now) }
+    ensures { option_map limit_view result ≡ verdict.passed_limit (query_view query.now) }
+{
+    if first_place(Rule::Steps, query, names).is_some() {
+        Some(Limit::Steps)
+    } else if found.len() > 64 {
+        Some(Limit::Aggregates)
+    } else {
+        None
+    }
+}
+
 /// The first place that is so.
 pub(crate) fn first_place(rule: Rule, query: &Query, names: &Names) -> Option<Place>
     requires within { placed.IsWithin (query_view query.now) }
@@ -63,21 +96,6 @@ pub(crate) fn is_grouped(query: &Query, names: &Names) -> bool
     first_place(Rule::Grouping, query, names).is_some()
 }
 
-/// Whether the name at a place stands before that place too.
-fn stands_before(names: &Names, at: usize) -> bool
-    requires { at < length names.now }
-    ensures { (name : List ℕ) → slice_get names.now at ≡ Some name →
-        result ≡ list_any (bytes_eq name) (take at names.now) }
-{
-    let name = name_at(names, at).as_str();
-    for before in 0..at {
-        if name == name_at(names, before).as_str() {
-            return true;
-        }
-    }
-    false
-}
-
 /// The first output whose name an earlier one has.
 pub(crate) fn first_same_name(names: &Names) -> Option<u32>
     requires { length names.now ≤ 256 }
@@ -90,16 +108,6 @@ pub(crate) fn first_same_name(names: &Names) -> Option<u32>
         }
     }
     None
-}
-
-/// Whether the order key is the number of no output.
-fn is_no_number(outputs: &Outputs, key: &Operand) -> bool
-    ensures { result ≡ verdict.is_no_number (outs_view outputs.now) key.now }
-{
-    match as_number(key) {
-        Some(number) => output_at(outputs, number).is_none(),
-        None => false,
-    }
 }
 
 /// The first order key that is the number of no output.
@@ -115,35 +123,27 @@ pub(crate) fn first_no_output(query: &Query) -> Option<u32>
     None
 }
 
-/// The first of the limits on outputs and keys that is passed.
-pub(crate) fn passed_count(query: &Query) -> Option<Limit>
-    ensures some { IfSome result (λ l.
-        verdict.passed_limit (query_view query.now) ≡ Some (limit_view l)) }
-    ensures none { IfNone result (placed.IsWithin (query_view query.now)) }
+/// Whether the name at a place stands before that place too.
+fn stands_before(names: &Names, at: usize) -> bool
+    requires { at < length names.now }
+    ensures { (name : List ℕ) → slice_get names.now at ≡ Some name →
+        result ≡ list_any (bytes_eq name) (take at names.now) }
 {
-    if output_count(&query.outputs) > 256 {
-        Some(Limit::Outputs)
-    } else if query.keys.len() > 16 {
-        Some(Limit::GroupKeys)
-    } else if query.order.len() > 16 {
-        Some(Limit::OrderKeys)
-    } else {
-        None
+    let name = name_at(names, at).as_str();
+    for before in 0..at {
+        if name == name_at(names, before).as_str() {
+            return true;
+        }
     }
+    false
 }
 
-/// The first limit that is passed, where those on outputs and keys aren't.
-pub(crate) fn passed_limit(query: &Query, names: &Names, found: &Exprs) -> Option<Limit>
-    requires within { placed.IsWithin (query_view query.now) }
-    requires names { names.now ≡ named.names (outs_view query.now.outputs) }
-    requires found { found.now ≡ aggs.aggregates (query_view query.now) }
-    ensures { option_map limit_view result ≡ verdict.passed_limit (query_view query.now) }
+/// Whether the order key is the number of no output.
+fn is_no_number(outputs: &Outputs, key: &Operand) -> bool
+    ensures { result ≡ verdict.is_no_number (outs_view outputs.now) key.now }
 {
-    if first_place(Rule::Steps, query, names).is_some() {
-        Some(Limit::Steps)
-    } else if found.len() > 64 {
-        Some(Limit::Aggregates)
-    } else {
-        None
+    match as_number(key) {
+        Some(number) => output_at(outputs, number).is_none(),
+        None => false,
     }
 }

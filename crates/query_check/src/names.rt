@@ -57,6 +57,17 @@ impl Names {
     }
 }
 
+/// The names of the outputs; `*` has none.
+#[tactic(auto, unfolding(check_meaning::specs::Names::names))]
+pub(crate) fn names_of(alloc: Global, outputs: &Outputs) -> Result<Names, OutOfMemory>
+    ensures { IfOk result (λ ns. ns ≡ spec.names (outs_view outputs.now)) }
+{
+    match outputs {
+        Outputs::Star => Ok(Names::new(alloc)),
+        Outputs::Named(items) => item_names(alloc, items),
+    }
+}
+
 /// The step of a path at a place, counted from 0.
 pub(crate) fn step_at(steps: &Steps, at: usize) -> &Step
     requires { at < length steps.now }
@@ -78,34 +89,27 @@ pub(crate) fn step_name(step: &Step) -> Option<&Text>
     }
 }
 
-/// The last name of a path that doesn't end in an index.
-fn last_name(steps: &Steps) -> Option<&Text>
-    ensures { option_copied result ≡ spec.last_name (map step_view steps.now) }
+/// The output at a place, counted from 0.
+pub(crate) fn output_item(items: &OutItems, at: usize) -> &Item
+    requires { at < length items.now }
+    ensures { slice_get items.now at ≡ Some (item_view result.now) }
 {
-    let count = steps.len();
-    if count == 0 {
-        None
-    } else {
-        step_name(step_at(steps, count - 1))
+    match items.get(at) {
+        Some(found) => found,
+        None => unreachable!(),
     }
 }
 
-/// The name that an expression has by itself, where it is a path.
-fn path_name(expr: &Operand) -> Option<&Text>
-    ensures { option_copied result ≡ spec.path_name expr.now }
+/// The names of outputs that aren't `*`.
+fn item_names(alloc: Global, items: &OutItems) -> Result<Names, OutOfMemory>
+    ensures { IfOk result (λ ns. ns ≡
+        map (λ o. spec.output_name o.0 o.1) (enumerate_from 1 items.now)) }
 {
-    match expr.get() {
-        Expr::Path { row: _, steps } => last_name(steps),
-        _ => None,
+    let mut names = Names::new(alloc);
+    for at in 0..items.len() {
+        names.push(output_name(alloc, at + 1, output_item(items, at))?)?;
     }
-}
-
-/// `_` and the number.
-fn numbered_name(alloc: Global, number: usize) -> Result<Text, OutOfMemory>
-    ensures { IfOk result (λ t. t ≡ spec.numbered_name number) }
-{
-    let name = format!(in alloc; "_{number}")?;
-    Text::of(alloc, name.as_str())
+    Ok(names)
 }
 
 /// The name of the output of this number, counted from 1.
@@ -121,35 +125,32 @@ fn output_name(alloc: Global, number: usize, item: &Item) -> Result<Text, OutOfM
     }
 }
 
-/// The output at a place, counted from 0.
-pub(crate) fn output_item(items: &OutItems, at: usize) -> &Item
-    requires { at < length items.now }
-    ensures { slice_get items.now at ≡ Some (item_view result.now) }
+/// The name that an expression has by itself, where it is a path.
+fn path_name(expr: &Operand) -> Option<&Text>
+    ensures { option_copied result ≡ spec.path_name expr.now }
 {
-    match items.get(at) {
-        Some(found) => found,
-        None => unreachable!(),
+    match expr.get() {
+        Expr::Path { row: _, steps } => last_name(steps),
+        _ => None,
     }
 }
 
-/// The names of outputs that aren't `*`.
-fn item_names(alloc: Global, items: &OutItems) -> Result<Names, OutOfMemory>
-    ensures { IfOk result (λ ns. ns ≡ map (λ o. spec.output_name o.0 o.1) (enumerate_from 1 items.now)) }
+/// The last name of a path that doesn't end in an index.
+fn last_name(steps: &Steps) -> Option<&Text>
+    ensures { option_copied result ≡ spec.last_name (map step_view steps.now) }
 {
-    let mut names = Names::new(alloc);
-    for at in 0..items.len() {
-        names.push(output_name(alloc, at + 1, output_item(items, at))?)?;
+    let count = steps.len();
+    if count == 0 {
+        None
+    } else {
+        step_name(step_at(steps, count - 1))
     }
-    Ok(names)
 }
 
-/// The names of the outputs; `*` has none.
-#[tactic(auto, unfolding(check_meaning::specs::Names::names))]
-pub(crate) fn names_of(alloc: Global, outputs: &Outputs) -> Result<Names, OutOfMemory>
-    ensures { IfOk result (λ ns. ns ≡ spec.names (outs_view outputs.now)) }
+/// `_` and the number.
+fn numbered_name(alloc: Global, number: usize) -> Result<Text, OutOfMemory>
+    ensures { IfOk result (λ t. t ≡ spec.numbered_name number) }
 {
-    match outputs {
-        Outputs::Star => Ok(Names::new(alloc)),
-        Outputs::Named(items) => item_names(alloc, items),
-    }
+    let name = format!(in alloc; "_{number}")?;
+    Text::of(alloc, name.as_str())
 }

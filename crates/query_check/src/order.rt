@@ -13,6 +13,21 @@ use crate::names::{Names, output_item, step_at, step_name};
 use query_tree::{Expr, Operand, OutItems, Outputs};
 use snel_values::{Steps, Text, Value};
 
+/// What an order key stands for: an output, or itself.
+#[tactic(auto, unfolding(check_meaning::specs::Places::order_ex))]
+pub(crate) fn order_ex<'a>(outputs: &'a Outputs, names: &Names, key: &'a Operand) -> &'a Operand
+    requires { names.now ≡ named.names (outs_view outputs.now) }
+    ensures { result.now ≡ spec.order_ex (outs_view outputs.now) key.now }
+{
+    match by_number(outputs, key) {
+        Some(output) => output,
+        None => match by_name(outputs, names, key) {
+            Some(output) => output,
+            None => key,
+        },
+    }
+}
+
 /// How many outputs there are; `*` has none.
 pub(crate) fn output_count(outputs: &Outputs) -> usize
     ensures { result ≡ length (spec.output_exs (outs_view outputs.now)) }
@@ -20,17 +35,6 @@ pub(crate) fn output_count(outputs: &Outputs) -> usize
     match outputs {
         Outputs::Star => 0,
         Outputs::Named(items) => items.len(),
-    }
-}
-
-/// The expression of an output at a place, counted from 0.
-fn item_ex(items: &OutItems, at: u128) -> Option<&Operand>
-    ensures { option_copied result ≡ slice_get (map (λ o. o.0) items.now) at }
-{
-    if at < items.len() as u128 {
-        Some(&output_item(items, at as usize).expr)
-    } else {
-        None
     }
 }
 
@@ -55,16 +59,14 @@ pub(crate) fn output_at(outputs: &Outputs, number: i128) -> Option<&Operand>
     output_ex(outputs, number.unsigned_abs() - 1)
 }
 
-/// The place of the first of these names that is the name, counted from 0.
-fn name_place(names: &Names, name: &str) -> Option<usize>
-    ensures { result ≡ position_from (bytes_eq name.now) 0 names.now }
+/// The number that a literal is.
+pub(crate) fn as_number(expr: &Operand) -> Option<i128>
+    ensures { result ≡ spec.as_number expr.now }
 {
-    for at in 0..names.len() {
-        if name == name_at(names, at).as_str() {
-            return Some(at);
-        }
+    match expr.get() {
+        Expr::Lit(value) => int_of(value),
+        _ => None,
     }
-    None
 }
 
 /// The name at a place, counted from 0.
@@ -78,56 +80,14 @@ pub(crate) fn name_at(names: &Names, at: usize) -> &Text
     }
 }
 
-/// The first output of that name.
-#[tactic(auto, unfolding(check_meaning::specs::Places::output_named))]
-fn output_named<'a>(outputs: &'a Outputs, names: &Names, name: &str) -> Option<&'a Operand>
-    requires { names.now ≡ named.names (outs_view outputs.now) }
-    ensures { option_copied result ≡
-        spec.output_named (outs_view outputs.now) name.now }
+/// The expression of an output at a place, counted from 0.
+fn item_ex(items: &OutItems, at: u128) -> Option<&Operand>
+    ensures { option_copied result ≡ slice_get (map (λ o. o.0) items.now) at }
 {
-    match name_place(names, name) {
-        Some(at) => output_ex(outputs, at as u128),
-        None => None,
-    }
-}
-
-fn int_of(value: &Value) -> Option<i128>
-    ensures { result ≡ spec.as_number (lit (value_view value.now)) }
-{
-    match value {
-        Value::Int(number) => Some(*number),
-        _ => None,
-    }
-}
-
-/// The number that a literal is.
-pub(crate) fn as_number(expr: &Operand) -> Option<i128>
-    ensures { result ≡ spec.as_number expr.now }
-{
-    match expr.get() {
-        Expr::Lit(value) => int_of(value),
-        _ => None,
-    }
-}
-
-/// The name of a path of one step.
-fn only_name(row: u8, steps: &Steps) -> Option<&Text>
-    ensures { option_copied result ≡ spec.as_name (path row (map step_view steps.now)) }
-{
-    if row == 0 && steps.len() == 1 {
-        step_name(step_at(steps, 0))
+    if at < items.len() as u128 {
+        Some(&output_item(items, at as usize).expr)
     } else {
         None
-    }
-}
-
-/// The name that is all of a path from the row.
-fn as_name(expr: &Operand) -> Option<&Text>
-    ensures { option_copied result ≡ spec.as_name expr.now }
-{
-    match expr.get() {
-        Expr::Path { row, steps } => only_name(*row, steps),
-        _ => None,
     }
 }
 
@@ -154,17 +114,57 @@ fn by_name<'a>(outputs: &'a Outputs, names: &Names, key: &Operand) -> Option<&'a
     }
 }
 
-/// What an order key stands for: an output, or itself.
-#[tactic(auto, unfolding(check_meaning::specs::Places::order_ex))]
-pub(crate) fn order_ex<'a>(outputs: &'a Outputs, names: &Names, key: &'a Operand) -> &'a Operand
-    requires { names.now ≡ named.names (outs_view outputs.now) }
-    ensures { result.now ≡ spec.order_ex (outs_view outputs.now) key.now }
+/// The name that is all of a path from the row.
+fn as_name(expr: &Operand) -> Option<&Text>
+    ensures { option_copied result ≡ spec.as_name expr.now }
 {
-    match by_number(outputs, key) {
-        Some(output) => output,
-        None => match by_name(outputs, names, key) {
-            Some(output) => output,
-            None => key,
-        },
+    match expr.get() {
+        Expr::Path { row, steps } => only_name(*row, steps),
+        _ => None,
+    }
+}
+
+/// The name of a path of one step.
+fn only_name(row: u8, steps: &Steps) -> Option<&Text>
+    ensures { option_copied result ≡ spec.as_name (path row (map step_view steps.now)) }
+{
+    if row == 0 && steps.len() == 1 {
+        step_name(step_at(steps, 0))
+    } else {
+        None
+    }
+}
+
+/// The first output of that name.
+#[tactic(auto, unfolding(check_meaning::specs::Places::output_named))]
+fn output_named<'a>(outputs: &'a Outputs, names: &Names, name: &str) -> Option<&'a Operand>
+    requires { names.now ≡ named.names (outs_view outputs.now) }
+    ensures { option_copied result ≡
+        spec.output_named (outs_view outputs.now) name.now }
+{
+    match name_place(names, name) {
+        Some(at) => output_ex(outputs, at as u128),
+        None => None,
+    }
+}
+
+/// The place of the first of these names that is the name, counted from 0.
+fn name_place(names: &Names, name: &str) -> Option<usize>
+    ensures { result ≡ position_from (bytes_eq name.now) 0 names.now }
+{
+    for at in 0..names.len() {
+        if name == name_at(names, at).as_str() {
+            return Some(at);
+        }
+    }
+    None
+}
+
+fn int_of(value: &Value) -> Option<i128>
+    ensures { result ≡ spec.as_number (lit (value_view value.now)) }
+{
+    match value {
+        Value::Int(number) => Some(*number),
+        _ => None,
     }
 }

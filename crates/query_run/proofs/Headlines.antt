@@ -1,14 +1,12 @@
 -- The bytes that a query over a file writes are those of an answer.
-use Rattle.std.proofs.Common.{◌≡◌, ◌≢◌, ℕ, List, [], ◌∷◌, ◌++◌, length, Bool, true, false, eqb, cond, Option, Some, None, refl, sym, subst, ◌∙◌, arith}
-use Rattle.std.proofs.lemmas.Bool.Decides.{nat_tests}
+use Rattle.std.proofs.Common.{◌≡◌, ℕ, List, [], ◌∷◌, ◌++◌, length, Option, Some, sym, ap, subst, ◌∙◌, arith, inl, inr}
 use Rattle.std.proofs.lemmas.List.{append-nil}
 use Rattle.std.specs.Io.KnownBytes.{Keeps}
 use Rattle.snel_device.specs.Contents.{Contents}
 use Rattle.value_meaning.specs.Val.{Val}
 use Rattle.block_meaning.specs.Tables.{Table}
-use Rattle.block_meaning.specs.Blocks.{IsBlock, block_in}
-use Rattle.block_meaning.proofs.BlockReading.{blocks_read, damaged_none, damaged_count}
-use Rattle.file_meaning.specs.Files.{Entry, IsFile, bytes_at, counted_rows, rows_at, rows_of}
+use Rattle.block_meaning.specs.Blocks.{IsBlock}
+use Rattle.file_meaning.specs.Files.{Entry, IsFile, bytes_at, AreEntryRows, AreFileRows}
 use Rattle.tree_meaning.specs.Tree.{Query}
 use Rattle.query_run.specs.Queries.{Accepts}
 use Rattle.query_run.specs.Headline.{AddsAnswer, Headline}
@@ -41,32 +39,21 @@ module _ (sql name bytes : List ℕ) (files : Contents) (status : ℕ) (old new 
   good : (e : Entry) (table : Table) (rs : List Val) → IsFile bytes [] (e ∷ []) → IsBlock table rs (bytes_at e bytes) → length rs ≡ e.rows → AddsAnswer q rs status old new
   good e table rs file block count = (ends (rows rs) ((q, taken), in_file (rows rs) (e, file, (table, block, count)))).wrote q taken
 
-  one : (e : Entry) → IsFile bytes [] (e ∷ []) → AddsAnswer q (rows_of (e ∷ []) bytes) status old new
-  unfolding rows_at
-  one e file = go (block_in (bytes_at e bytes)) refl
-    where
-      counted : (b : Table × List Val) (t : Bool) → block_in (bytes_at e bytes) ≡ Some b → eqb (length b.1) e.rows ≡ t → AddsAnswer q (cond t b.1 [] ++ []) status old new
-      counted b true read same =
-          let count : length b.1 ≡ e.rows = grind (arith, nat_tests) in
-          let block : IsBlock b.0 b.1 (bytes_at e bytes) = (blocks_read b.0 b.1 (bytes_at e bytes)).0 read in
-          subst (λ (l : List Val). AddsAnswer q l status old new) (sym (append-nil b.1)) (good e b.0 b.1 file block count)
-      counted b false read other =
-          let count : length b.1 ≢ e.rows = λ c. let no : true ≡ false = sym (grind (arith, nat_tests)) ∙ other in cc in
-          bad [] (e, file, damaged_count e.rows (bytes_at e bytes) b.0 b.1 read count)
+  one : (e : Entry) (rs : List Val) → IsFile bytes [] (e ∷ []) → AreEntryRows e bytes rs → AddsAnswer q rs status old new
+  one e rs file (inl h) = good e h.0 rs file h.1 h.2
+  one e rs file (inr h) = bad rs (e, file, h.0)
 
-      go : (o : Option (Table × List Val)) → block_in (bytes_at e bytes) ≡ o → AddsAnswer q (counted_rows e.rows (block_in (bytes_at e bytes)) ++ []) status old new
-      go None read = rw read (bad [] (e, file, damaged_none e.rows (bytes_at e bytes) read))
-      go (Some b) read = rw read (counted b (eqb (length b.1) e.rows) read refl)
-
-  pub answered : (field : List ℕ) (entries : List Entry) → IsFile bytes field entries → AddsAnswer q (rows_of entries bytes) status old new
-  answered field [] file = no_block _ (one_is_there bytes field [] file (λ z. omega arith))
-  answered [] (e ∷ []) file = one e file
-  answered (c ∷ cs) (e ∷ []) file = no_block _ (field_is_empty bytes (c ∷ cs) (e ∷ []) file (λ z. omega arith))
-  answered field (d ∷ e ∷ es) file = no_block _ (one_is_there bytes field (d ∷ e ∷ es) file (λ z. omega arith))
+  pub answered : (field : List ℕ) (entries : List Entry) (rs : List Val) → IsFile bytes field entries → AreFileRows entries bytes rs → AddsAnswer q rs status old new
+  answered field [] rs file h = no_block rs (one_is_there bytes field [] file (λ z. omega arith))
+  answered [] (e ∷ []) rs file h =
+      let all : h.0 ≡ rs = sym (h.2 ∙ ap (λ (l : List Val). h.0 ++ l) h.4 ∙ append-nil h.0) in
+      subst (λ (l : List Val). AddsAnswer q l status old new) all (one e h.0 file h.3)
+  answered (c ∷ cs) (e ∷ []) rs file h = no_block rs (field_is_empty bytes (c ∷ cs) (e ∷ []) file (λ z. omega arith))
+  answered field (d ∷ e ∷ es) rs file h = no_block rs (one_is_there bytes field (d ∷ e ∷ es) file (λ z. omega arith))
 
 pub headline : (sql name : List ℕ) (told : Option Contents) (status : ℕ) (old new : Option (List ℕ)) → Ends sql told name status old new → Headline sql name told status old new
 headline sql name told status old new ends = record {
-  answers = λ bytes field entries files q taken tells has file.
+  answers = λ bytes field entries rs files q taken tells has file rows_are.
       let here : Ends sql (Some files) name status old new = subst (λ (t : Option Contents). Ends sql t name status old new) tells ends in
-      answered sql name bytes files status old new q taken has here field entries file;
+      answered sql name bytes files status old new q taken has here field entries rs file rows_are;
 }

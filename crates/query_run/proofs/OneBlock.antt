@@ -141,8 +141,8 @@ is_one_block bytes field entries e file no_name one first =
 -- the block lies within the file
 pub lies_within : (bytes : List ℕ) (e : Entry) → HasOneBlock e bytes → e.start + e.length ≤ length bytes
 lies_within bytes e file =
-    let start : e.start ≡ 0 = file.stand.0 in
-    let end : 0 + e.length ≡ length file.blocks = file.stand.2 in
+    let start : e.start ≡ 0 = file.index.stand.0 in
+    let end : 0 + e.length ≡ length file.blocks = file.index.stand.2 in
     let long : length bytes ≡ length file.blocks + length (index_bytes [] (e ∷ []) ++ tail_bytes (length file.blocks)) = ap (λ (l : List ℕ). length l) file.parts ∙ length-append file.blocks (index_bytes [] (e ∷ []) ++ tail_bytes (length file.blocks)) in
     omega arith
 

@@ -3,7 +3,7 @@ use Rattle.std.specs.Prelude.{◌≡◌, ℕ, Bool, List, map, Option, Some}
 use Rattle.std.specs.Io.KnownBytes.{Appends}
 use Rattle.snel_device.specs.Contents.{Contents}
 use Rattle.value_meaning.specs.Val.{Val}
-use Rattle.file_meaning.specs.Files.{Entry, IsFile, rows_of}
+use Rattle.file_meaning.specs.Files.{Entry, IsFile, AreFileRows}
 use Rattle.tree_meaning.specs.Tree.{Query}
 use Rattle.answer_meaning.specs.Made.{Output}
 use Rattle.answer_meaning.specs.Answers.{IsAnswer}
@@ -33,6 +33,6 @@ Answers sql rows status old new = (q : Query) → Accepts sql q → AddsAnswer q
 -- allows for the rows of the file's undamaged blocks: the whole answer at status 0, and otherwise a prefix of one.
 pub record Headline (sql name : List ℕ) (told : Option Contents) (status : ℕ) (old new : Option (List ℕ)) : Type 0 where
   pub answers :
-      (bytes field : List ℕ) (entries : List Entry) (files : Contents) (q : Query)
-      → Accepts sql q → told ≡ Some files → files name ≡ Some bytes → IsFile bytes field entries
-      → AddsAnswer q (rows_of entries bytes) status old new
+      (bytes field : List ℕ) (entries : List Entry) (rows : List Val) (files : Contents) (q : Query)
+      → Accepts sql q → told ≡ Some files → files name ≡ Some bytes → IsFile bytes field entries → AreFileRows entries bytes rows
+      → AddsAnswer q rows status old new

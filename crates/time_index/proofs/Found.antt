@@ -2,7 +2,7 @@
 use Rattle.std.proofs.Common.{◌≡◌, ℕ, List, Option, Some, None, IfOk, IfSome, Result, sym, ap, ◌∙◌, subst}
 use Rattle.std.specs.Option.{option_map}
 use Rattle.std.proofs.lemmas.Result.{IfOk-weaker}
-use Rattle.file_meaning.specs.Index.{SpellsIndex}
+use Rattle.file_meaning.specs.Files.{SpellsIndex}
 use Rattle.file_meaning.specs.Reading.{AreBytes, index_in}
 use Rattle.file_meaning.proofs.Believed.{index_spells}
 use Rattle.time_index.specs.declared.index.Index.{Index}

@@ -5,6 +5,7 @@ use Rattle.std.specs.Option.{option_map}
 use Rattle.std.specs.Str.{IsUtf8, is_utf8}
 use Rattle.std.proofs.lemmas.Str.{IsUtf8-from_is_utf8, is_utf8-from_IsUtf8}
 use Rattle.std.proofs.lemmas.Bool.Decides.{nat_tests}
+use Rattle.file_meaning.specs.declared.TheConstants.{MOST_BLOCKS, MOST_NAME_BYTES}
 use Rattle.file_meaning.specs.Files.{Entry}
 use Rattle.file_meaning.specs.Reading.{u16_at, u32_at, has_magic, entries_at, named_at, index_in}
 
@@ -16,16 +17,16 @@ none_where : (b : Bool) (o : Found) → b ≡ false → cond b o None ≡ None
 none_where b o is = rw is refl
 
 -- the sizes are wrong
-pub wrong_sizes : (to n count : ℕ) (bytes : List ℕ) → (nat_le n 255 && nat_le count (2 ^ 20) && (length bytes == 10 + n + 32 * count)) ≡ false → named_at to n count bytes ≡ None
+pub wrong_sizes : (to n count : ℕ) (bytes : List ℕ) → (nat_le n MOST_NAME_BYTES && nat_le count MOST_BLOCKS && (length bytes == 10 + n + 32 * count)) ≡ false → named_at to n count bytes ≡ None
 unfolding named_at
 wrong_sizes to n count bytes wrong =
     let name = take n (drop 6 bytes) in
-    none_where (nat_le n 255 && nat_le count (2 ^ 20) && (length bytes == 10 + n + 32 * count) && is_utf8 name) (option_map (λ es. (name, es)) (entries_at 0 to count (10 + n) bytes)) (rw wrong refl)
+    none_where (nat_le n MOST_NAME_BYTES && nat_le count MOST_BLOCKS && (length bytes == 10 + n + 32 * count) && is_utf8 name) (option_map (λ es. (name, es)) (entries_at 0 to count (10 + n) bytes)) (rw wrong refl)
 
-pub long_name : (to n count : ℕ) (bytes : List ℕ) → 255 < n → named_at to n count bytes ≡ None
+pub long_name : (to n count : ℕ) (bytes : List ℕ) → MOST_NAME_BYTES < n → named_at to n count bytes ≡ None
 long_name to n count bytes h = wrong_sizes to n count bytes (grind (arith, nat_tests))
 
-pub many_entries : (to n count : ℕ) (bytes : List ℕ) → 2 ^ 20 < count → named_at to n count bytes ≡ None
+pub many_entries : (to n count : ℕ) (bytes : List ℕ) → MOST_BLOCKS < count → named_at to n count bytes ≡ None
 many_entries to n count bytes h = wrong_sizes to n count bytes (grind (arith, nat_tests))
 
 pub other_length : (to n count : ℕ) (bytes : List ℕ) → (length bytes ≡ 10 + n + 32 * count → ⊥) → named_at to n count bytes ≡ None
@@ -43,7 +44,7 @@ pub no_text : (to n count : ℕ) (bytes : List ℕ) → (IsUtf8 (take n (drop 6 
 unfolding named_at
 no_text to n count bytes never =
     let name = take n (drop 6 bytes) in
-    let sizes = nat_le n 255 && nat_le count (2 ^ 20) && (length bytes == 10 + n + 32 * count) in
+    let sizes = nat_le n MOST_NAME_BYTES && nat_le count MOST_BLOCKS && (length bytes == 10 + n + 32 * count) in
     let wrong : is_utf8 name ≡ false = not_utf8 name (is_utf8 name) refl never in
     none_where (sizes && is_utf8 name) (option_map (λ es. (name, es)) (entries_at 0 to count (10 + n) bytes)) (ap (λ (b : Bool). sizes && b) wrong ∙ and_false sizes)
 
@@ -55,16 +56,16 @@ pub no_entries : (to n count : ℕ) (bytes : List ℕ) → entries_at 0 to count
 unfolding named_at
 no_entries to n count bytes none =
     let name = take n (drop 6 bytes) in
-    rw none (none_then (nat_le n 255 && nat_le count (2 ^ 20) && (length bytes == 10 + n + 32 * count) && is_utf8 name))
+    rw none (none_then (nat_le n MOST_NAME_BYTES && nat_le count MOST_BLOCKS && (length bytes == 10 + n + 32 * count) && is_utf8 name))
 
 -- the name and the entries are read
 abbrev pub Finds : Found → List ℕ → List Entry → Type 0
 Finds o f es = let found : Found = Some (f, es) in found ≡ o
 
-pub named : (to n count : ℕ) (bytes f : List ℕ) (es : List Entry) → n ≤ 255 → count ≤ 2 ^ 20 → length bytes ≡ 10 + n + 32 * count → f ≡ take n (drop 6 bytes) → IsUtf8 f → Some es ≡ entries_at 0 to count (10 + n) bytes → Finds (named_at to n count bytes) f es
+pub named : (to n count : ℕ) (bytes f : List ℕ) (es : List Entry) → n ≤ MOST_NAME_BYTES → count ≤ MOST_BLOCKS → length bytes ≡ 10 + n + 32 * count → f ≡ take n (drop 6 bytes) → IsUtf8 f → Some es ≡ entries_at 0 to count (10 + n) bytes → Finds (named_at to n count bytes) f es
 unfolding named_at
 named to n count bytes f es short few long is text read =
-    let sizes : (nat_le n 255 && nat_le count (2 ^ 20) && (length bytes == 10 + n + 32 * count)) ≡ true = grind (arith, nat_tests) in
+    let sizes : (nat_le n MOST_NAME_BYTES && nat_le count MOST_BLOCKS && (length bytes == 10 + n + 32 * count)) ≡ true = grind (arith, nat_tests) in
     let utf8 : is_utf8 f ≡ true = is_utf8-from_IsUtf8 f text in
     rw (sizes, sym is, utf8, sym read) refl
 

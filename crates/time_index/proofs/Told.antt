@@ -4,7 +4,7 @@ use Rattle.std.specs.Prelude.{IsSome, IsSomeAnd}
 use Rattle.std.specs.Option.{ForSome, option_and_then}
 use Rattle.snel_device.specs.Contents.{Contents}
 use Rattle.file_meaning.specs.Files.{Entry, IsFile, tail_bytes}
-use Rattle.file_meaning.specs.Index.{SpellsIndex}
+use Rattle.file_meaning.specs.Files.{SpellsIndex}
 use Rattle.file_meaning.specs.Reading.{gap_in, index_in, index_before, file_in, index_cost}
 use Rattle.file_meaning.proofs.Spelled.{file_reads}
 use Rattle.file_meaning.proofs.Believed.{HasRead, file_of_parts}

@@ -4,6 +4,7 @@ use Rattle.std.specs.Prelude.{◌==◌}
 use Rattle.std.specs.Option.{option_map}
 use Rattle.std.proofs.lemmas.List.{append-nil}
 use Rattle.std.proofs.lemmas.Bool.Decides.{nat_tests}
+use Rattle.file_meaning.specs.declared.TheConstants.{MOST_ENTRY_BYTES}
 use Rattle.file_meaning.specs.Files.{Entry}
 use Rattle.file_meaning.specs.Reading.{entry_at, stands_at, entries_at}
 
@@ -13,7 +14,7 @@ onto done rest = option_map (λ es. done ++ es) rest
 
 -- the answer, once so many entries were read
 pub record HasWalked (to count at i from : ℕ) (bytes : List ℕ) (done : List Entry) : Type 0 where
-  pub short : from ≤ 2 ^ 20 * i
+  pub short : from ≤ MOST_ENTRY_BYTES * i
   pub answer : entries_at 0 to count at bytes ≡ onto done (entries_at from to (count - i) (at + 32 * i) bytes)
 
 onto_nil : (rest : Option (List Entry)) → rest ≡ onto [] rest
@@ -34,7 +35,7 @@ one_more : (to from left at : ℕ) (bytes : List ℕ) → entries_at from to (su
 unfolding entries_at
 one_more to from left at bytes = refl
 
-short_entry : (from : ℕ) (e : Entry) → stands_at from e ≡ true → e.length ≤ 2 ^ 20
+short_entry : (from : ℕ) (e : Entry) → stands_at from e ≡ true → e.length ≤ MOST_ENTRY_BYTES
 unfolding stands_at
 short_entry from e holds = grind (arith, nat_tests)
 

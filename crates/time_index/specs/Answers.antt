@@ -1,8 +1,7 @@
 -- What reading the index of a file answers, and how many bytes it may take.
 use Rattle.std.specs.Prelude.{ℕ, ◌+◌, ◌≤◌, List, Option, IsSomeAnd}
 use Rattle.std.specs.Option.{ForSome}
-use Rattle.file_meaning.specs.Files.{Entry, IsFile}
-use Rattle.file_meaning.specs.Index.{IsIndex}
+use Rattle.file_meaning.specs.Files.{Entry, IsIndex, IsFile}
 use Rattle.file_meaning.specs.Reading.{index_cost}
 use Rattle.snel_device.specs.Contents.{Contents}
 

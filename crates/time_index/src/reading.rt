@@ -1,22 +1,18 @@
 ghost use Rattle.std.specs.Prelude.{◌≡◌, ◌+◌, ◌-◌, ◌*◌, ◌^◌, ◌≤◌, length, IfOk, IfSome};
 ghost use Rattle.std.specs.Option.{option_map};
-ghost use Rattle.file_meaning.specs.Files.{tail_bytes};
-ghost use Rattle.file_meaning.specs.Index.{SpellsIndex};
+ghost use Rattle.file_meaning.specs.Files.{tail_bytes, SpellsIndex};
 ghost use Rattle.file_meaning.specs.Reading.{entry_at, stands_at, entries_at, named_at, index_in, gap_in};
 
 use crate::entries::Entries;
 use crate::entry::Entry;
 use crate::index::Index;
 use crate::numbers::{has_magic, u16_at, u32_at, u64_at};
+use file_meaning::{
+    LEAST_INDEX_BYTES, MOST_BLOCKS, MOST_ENTRY_BYTES, MOST_ENTRY_ROWS, MOST_INDEX_BYTES,
+    MOST_NAME_BYTES,
+};
 use snel_values::{OutOfMemory, Text};
 use std::alloc::Global;
-
-// The longest name, the most entries, and the bytes of an index with both.
-const MOST_NAME_BYTES: usize = 255;
-
-const MOST_ENTRIES: usize = 1_048_576;
-
-const MOST_INDEX_BYTES: u64 = 33_554_697;
 
 // What the 32 bytes at a place say of a block.
 #[tactic(auto, unfolding(file_meaning::specs::Reading::entry_at))]
@@ -40,9 +36,9 @@ pub(crate) fn stands_at(from: u64, entry: &Entry) -> bool
 {
     entry.start == from
         && 1 <= entry.length
-        && entry.length <= 1_048_576
+        && entry.length <= MOST_ENTRY_BYTES
         && 1 <= entry.rows
-        && entry.rows <= 65_536
+        && entry.rows <= MOST_ENTRY_ROWS
 }
 
 // So many entries at a place, up to the end of the bytes, of blocks that stand end to end from the
@@ -54,7 +50,7 @@ pub(crate) fn entries_at(
     count: usize,
     to: u64,
 ) -> Result<Option<Entries>, OutOfMemory>
-    requires few { count ≤ 2 ^ 20 }
+    requires few { count ≤ MOST_BLOCKS }
     requires long { length bytes.now ≡ at + 32 * count }
     ensures { IfOk result (λ entries. entries ≡ entries_at 0 to count at bytes.now) }
 {
@@ -82,7 +78,7 @@ fn named_at(
 ) -> Result<Option<Index>, OutOfMemory>
     ensures { IfOk result (λ index. option_map (λ i. (i.field, i.entries)) index ≡ named_at to size count bytes.now) }
 {
-    if size > MOST_NAME_BYTES || count > MOST_ENTRIES || bytes.len() != 10 + size + 32 * count {
+    if size > MOST_NAME_BYTES || count > MOST_BLOCKS || bytes.len() != 10 + size + 32 * count {
         return Ok(None);
     }
     let Ok(name) = str::from_utf8(&bytes[6..6 + size]) else {
@@ -97,7 +93,7 @@ fn named_at(
 
 // The index that the bytes are, of blocks up to `to`. `None` where they are none.
 pub(crate) fn index_in(alloc: Global, bytes: &[u8], to: u64) -> Result<Option<Index>, OutOfMemory>
-    requires { 10 ≤ length bytes.now }
+    requires { LEAST_INDEX_BYTES ≤ length bytes.now }
     ensures read { IfOk result (λ index. option_map (λ i. (i.field, i.entries)) index ≡ index_in to bytes.now) }
     ensures spelled { IfOk result (λ index. IfSome index (λ i. SpellsIndex bytes.now i.field i.entries to)) }
 {
@@ -118,13 +114,13 @@ pub(crate) fn index_in(alloc: Global, bytes: &[u8], to: u64) -> Result<Option<In
 pub(crate) fn gap_in(at: u64, tail: &[u8]) -> Option<u64>
     requires { length tail.now ≡ 12 }
     ensures gap { result ≡ gap_in at tail.now }
-    ensures least { IfSome result (λ gap. 10 ≤ gap) }
-    ensures most { IfSome result (λ gap. gap ≤ 33_554_697) }
+    ensures least { IfSome result (λ gap. LEAST_INDEX_BYTES ≤ gap) }
+    ensures most { IfSome result (λ gap. gap ≤ MOST_INDEX_BYTES) }
     ensures within { IfSome result (λ gap. gap ≤ at) }
     ensures spelled { IfSome result (λ gap. tail.now ≡ tail_bytes (at - gap)) }
 {
     let gap = at.saturating_sub(u64_at(tail, 0));
-    if has_magic(tail, 8) && 10 <= gap && gap <= MOST_INDEX_BYTES {
+    if has_magic(tail, 8) && LEAST_INDEX_BYTES <= gap && gap <= MOST_INDEX_BYTES {
         Some(gap)
     } else {
         None

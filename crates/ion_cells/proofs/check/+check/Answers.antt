@@ -42,14 +42,14 @@ pub is_payload-returns-then-room-eq0 : goal.is_payload-returns-then-room-eq0
 is_payload-returns-then-room-eq0 t c =
     rw (no_room (blank_table c.args.last) c.args.room c.args.kind c.args.payload.now c.if-room-eq0.true) c.is_scalar.ensures
 
-pub is_payload-returns-then-kind-eq11 : goal.is_payload-returns-then-kind-eq11
-is_payload-returns-then-kind-eq11 t c =
-    c.are_cells.ensures ∙ list_payload (blank_table c.args.last) c.args.room c.args.kind c.args.payload.now c.if-kind-eq11.true (omega arith)
+pub is_payload-returns-then-kind-eq-LIST : goal.is_payload-returns-then-kind-eq-LIST
+is_payload-returns-then-kind-eq-LIST t c =
+    c.are_cells.ensures ∙ list_payload (blank_table c.args.last) c.args.room c.args.kind c.args.payload.now c.if-kind-eq-LIST.true (omega arith)
 
-pub is_payload-returns-then-kind-eq13 : goal.is_payload-returns-then-kind-eq13
-is_payload-returns-then-kind-eq13 t c =
-    c.are_pairs.ensures ∙ struct_payload (blank_table c.args.last) c.args.room c.args.kind c.args.payload.now c.if-kind-eq13.true (omega arith)
+pub is_payload-returns-then-kind-eq-STRUCT : goal.is_payload-returns-then-kind-eq-STRUCT
+is_payload-returns-then-kind-eq-STRUCT t c =
+    c.are_pairs.ensures ∙ struct_payload (blank_table c.args.last) c.args.room c.args.kind c.args.payload.now c.if-kind-eq-STRUCT.true (omega arith)
 
-pub is_payload-returns-else-kind-eq13 : goal.is_payload-returns-else-kind-eq13
-is_payload-returns-else-kind-eq13 t c =
-    rw (flat_payload (blank_table c.args.last) c.args.room c.args.kind c.args.payload.now c.if-kind-eq11.false c.if-kind-eq13.false) c.is_scalar-else-kind-eq13.ensures
+pub is_payload-returns-else-kind-eq-STRUCT : goal.is_payload-returns-else-kind-eq-STRUCT
+is_payload-returns-else-kind-eq-STRUCT t c =
+    rw (flat_payload (blank_table c.args.last) c.args.room c.args.kind c.args.payload.now c.if-kind-eq-LIST.false c.if-kind-eq-STRUCT.false) c.is_scalar-else-kind-eq-STRUCT.ensures

@@ -16,7 +16,7 @@ returns-then-byte-ge128-clause-number c = rw c.from.ensures (uint_lasts c.args.b
 
 pub returns-then-byte-ge128-clause-within : goal.returns-then-byte-ge128-clause-within
 returns-then-byte-ge128-clause-within c =
-    (omega arith, omega arith, omega (arith, (below_128 c.loop-i.number c.from.result c.loop-i.i (omega arith) c.loop-i.invariant.0 (omega arith)).1))
+    (omega arith, omega arith, omega (arith, (below_128 c.loop-i.number c.from.result c.loop-i.i (omega arith) c.loop-i.invariant.0 (omega arith)).1), omega arith)
 
 pub overflow_mul-number : goal.overflow_mul-number
 overflow_mul-number c = omega (arith, (below_128 c.loop-i.number 0 c.loop-i.i (omega arith) c.loop-i.invariant.0 (omega arith)).1)

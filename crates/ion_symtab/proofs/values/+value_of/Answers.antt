@@ -1,9 +1,9 @@
 use Rattle.std.proofs.Common.{◌≡◌, ◌<◌, ◌+◌, ◌*◌, ◌-◌, length, sym, ap, ◌∙◌, arith}
-use Rattle.value_meaning.specs.Val.{vals, fields, list, struct}
+use Rattle.value_meaning.specs.Val.{size}
 use Rattle.snel_values.specs.View.{view}
-use Rattle.ion_cells.specs.Shown.{shown, is_symbol_cell}
+use Rattle.ion_cells.specs.Shown.{shown}
 use Rattle.ion_cells.specs.Iterating.{values_left, fields_last, fields_low, pairs_left, labelled}
-use Rattle.ion_symtab.proofs.Members.{item_smaller, pair_smaller, one_more, listed, structured, list_size, struct_size, has_text, name_is, above_next}
+use Rattle.ion_symtab.proofs.Members.{item_smaller, pair_smaller, one_more, has_text, name_is, above_next}
 use Rattle.ion_symtab.proofs.values.+value_of.Goals as goal
 
 pub items_of-value_of-requires : goal.items_of-value_of-requires
@@ -41,24 +41,10 @@ pairs_of-loop-label-preserved t c =
 
 pub value_of-items_of-requires : goal.value_of-items_of-requires
 value_of-items_of-requires t c =
-    let table = c.args.table.now in
-    let same = list_size (is_symbol_cell c.args.cell.now) (shown table c.args.cell.now) (values_left table c.in-Some.cells) (c.in-List.ensures table c.requires) (c.in-Some.ensures.values table c.requires) in
-    (omega (arith, c.decreases), c.requires ∙ ap (λ n. n - 9) (sym c.in-Some.ensures.last))
+    let same = ap size (c.in-List.ensures.value c.args.table.now c.requires) in
+    (omega (arith, c.decreases, same), c.requires ∙ ap (λ n. n - 9) (sym c.in-List.ensures.within))
 
 pub value_of-pairs_of-requires : goal.value_of-pairs_of-requires
 value_of-pairs_of-requires t c =
-    let table = c.args.table.now in
-    let same = struct_size (is_symbol_cell c.args.cell.now) (shown table c.args.cell.now) (pairs_left table c.in-Some-fields.fields) (c.in-Struct.ensures table c.requires) (c.in-Some-fields.ensures.pairs table c.requires) in
-    (omega (arith, c.decreases), c.requires ∙ ap (λ n. n - 9) (sym c.in-Some-fields.ensures.last))
-
-pub value_of-returns-in_ok-items_of-in-Some : goal.value_of-returns-in_ok-items_of-in-Some
-value_of-returns-in_ok-items_of-in-Some t c =
-    let table = c.args.table.now in
-    let same = listed (is_symbol_cell c.args.cell.now) (shown table c.args.cell.now) (values_left table c.in-Some.cells) (c.in-List.ensures table c.requires) (c.in-Some.ensures.values table c.requires) in
-    ap (λ vs. list (vals vs)) c.in_ok-items_of-in-Some.ensures ∙ sym same
-
-pub value_of-returns-in_ok-pairs_of-in-Some-fields : goal.value_of-returns-in_ok-pairs_of-in-Some-fields
-value_of-returns-in_ok-pairs_of-in-Some-fields t c =
-    let table = c.args.table.now in
-    let same = structured (is_symbol_cell c.args.cell.now) (shown table c.args.cell.now) (pairs_left table c.in-Some-fields.fields) (c.in-Struct.ensures table c.requires) (c.in-Some-fields.ensures.pairs table c.requires) in
-    ap (λ fs. struct (fields fs)) c.in_ok-pairs_of-in-Some-fields.ensures ∙ sym same
+    let same = ap size (c.in-Struct.ensures.value c.args.table.now c.requires) in
+    (omega (arith, c.decreases, same), c.requires ∙ ap (λ n. n - 9) (sym c.in-Struct.ensures.within))

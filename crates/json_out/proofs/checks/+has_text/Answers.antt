@@ -1,7 +1,7 @@
 -- The item at a place is the first of those from there on.
 use Rattle.std.proofs.Common.{◌≤◌, ◌+◌, List, ◌∷◌, drop, refl, sym, ap, subst, arith}
 use Rattle.value_meaning.specs.Val.{Val, vals, vals_size}
-use Rattle.block_meaning.specs.Laws.{HaveTimesInRange}
+use Rattle.block_meaning.specs.Stored.{HaveTimesInRange}
 use Rattle.snel_values.specs.View.{view, views}
 use Rattle.snel_values.proofs.Comparing.{drop_map}
 use Rattle.json_out.specs.NoMissing.{HaveNoMissing}

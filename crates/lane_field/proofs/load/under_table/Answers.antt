@@ -1,8 +1,7 @@
-use Rattle.std.proofs.Common.{◌∙◌, ap}
-use Rattle.block_meaning.specs.CellReading.{is_cell}
+use Rattle.std.proofs.Common.{◌∙◌}
 use Rattle.block_meaning.proofs.LastSymbol.{cell_of_blank}
+use Rattle.ion_cells.specs.Shown.{cell_bytes}
 use Rattle.lane_field.proofs.load.under_table.Goals as goal
 
-pub of_bytes-requires : goal.of_bytes-requires
-of_bytes-requires c =
-    cell_of_blank c.args.table.now c.last.result c.bytes.result.now c.last.ensures ∙ ap (is_cell c.args.table.now) c.bytes.ensures.bytes ∙ c.requires.legal
+pub under-requires : goal.under-requires
+under-requires c = cell_of_blank c.args.table.now c.last.result (cell_bytes c.args.cell) c.last.ensures ∙ c.requires.legal

@@ -1,6 +1,6 @@
 use Rattle.std.proofs.Common.{◌≡◌, ◌+◌, ◌++◌, ◌<◌, map, length, ap, ◌∙◌, cond, arith}
 use Rattle.std.proofs.lemmas.List.{length-map}
-use Rattle.program_meaning.specs.Programs.{makes_mask}
+use Rattle.program_meaning.specs.Instructions.{makes_mask}
 use Rattle.lane_ssa.specs.Views.{instr_view}
 use Rattle.plan_lower.proofs.Lines.{program_more, mask_more, mask_within, program_done}
 use Rattle.plan_lower.proofs.HeldConstants.{constant_at}

@@ -1,48 +1,43 @@
-use Rattle.std.proofs.Common.{ap, sym, subst, ◌∙◌, [], ◌∷◌, ◌++◌}
+use Rattle.std.proofs.Common.{ap, sym, subst, ◌∙◌}
 use Rattle.tree_meaning.specs.Tree.{Query}
 use Rattle.check_meaning.specs.Names.{names}
-use Rattle.program_meaning.specs.Instructions.{all}
 use Rattle.program_meaning.specs.Programs.{mask_count, value_count, IsProgram}
 use Rattle.program_meaning.specs.Jobs.{AreEnds}
 use Rattle.program_meaning.specs.Simulation.{Simulates}
 use Rattle.query_tree.specs.Queries.{query_view}
 use Rattle.plan_lower.specs.Forms.{are_lowered_outs, is_lowered_filter, is_lowered}
-use Rattle.plan_lower.specs.Emitting.{Keeps}
 use Rattle.plan_lower.specs.Ends.{plain_ends}
 use Rattle.plan_lower.proofs.PlainQueries.{lowered_is_plain}
 use Rattle.plan_lower.proofs.PlainJobs.{are_ends, simulates}
 use Rattle.plan_lower.proofs.lowering.lower.Goals as goal
 
 pub emit_filter-requires-clause-lowered : goal.emit_filter-requires-clause-lowered
-emit_filter-requires-clause-lowered c = ap (λ (q : Query). is_lowered_filter q.filter) c.query-query.ensures ∙ (lowered_is_plain c.args.checked.now c.requires.lowered).filter
+emit_filter-requires-clause-lowered c = ap (λ (q : Query). is_lowered_filter q.filter) c.query-query.ensures.is ∙ (lowered_is_plain c.args.checked.now c.requires).filter
 
 pub emit_outs-requires-clause-lowered : goal.emit_outs-requires-clause-lowered
-emit_outs-requires-clause-lowered c = ap (λ (q : Query). are_lowered_outs q.outs) c.query-query.ensures ∙ (lowered_is_plain c.args.checked.now c.requires.lowered).outs
+emit_outs-requires-clause-lowered c = ap (λ (q : Query). are_lowered_outs q.outs) c.query-query.ensures.is ∙ (lowered_is_plain c.args.checked.now c.requires).outs
 
 pub finish-requires : goal.finish-requires
 finish-requires c =
     let q = query_view c.query-query.result.now in
-    let first = c.put.new.self in
+    let first = c.in_ok-builder.builder in
     let kept = c.emit_filter.new.builder in
     let made = c.emit_outs.new.builder in
     let keep = c.in_ok-keep.keep in
     let outs = c.in_ok-outs.outs in
     subst (λ e. AreEnds (mask_count made) (value_count made) e) (sym (c.plain_ends.ensures ∙ ap (λ b. plain_ends keep b outs) c.is_star-star.ensures))
-    (are_ends q (ap is_lowered c.query-query.ensures ∙ c.requires.lowered) outs first kept made keep (c.in_ok-all.ensures.ok ∙ ap (λ l. l ++ all ∷ []) c.new-builder.ensures)
-    (subst (λ n. Keeps first kept q.filter n keep) (c.in_ok-all.ensures.number ∙ ap mask_count c.new-builder.ensures) c.in_ok-keep.ensures)
-    c.in_ok-outs.ensures.emitted)
+    (are_ends q (ap is_lowered c.query-query.ensures.is ∙ c.requires) outs first kept made keep c.in_ok-builder.ensures c.in_ok-keep.ensures c.in_ok-outs.ensures.emitted)
 
 pub returns : goal.returns
 returns c =
     let q = query_view c.query-query.result.now in
-    let first = c.put.new.self in
+    let first = c.in_ok-builder.builder in
     let kept = c.emit_filter.new.builder in
     let made = c.emit_outs.new.builder in
     let keep = c.in_ok-keep.keep in
     let outs = c.in_ok-outs.outs in
-    subst (λ q. Simulates c.finish.result q) c.query-query.ensures
-    (simulates q (ap is_lowered c.query-query.ensures ∙ c.requires.lowered) outs first kept made keep (c.in_ok-all.ensures.ok ∙ ap (λ l. l ++ all ∷ []) c.new-builder.ensures)
-    (subst (λ n. Keeps first kept q.filter n keep) (c.in_ok-all.ensures.number ∙ ap mask_count c.new-builder.ensures) c.in_ok-keep.ensures)
+    subst (λ q. Simulates c.finish.result q) c.query-query.ensures.is
+    (simulates q (ap is_lowered c.query-query.ensures.is ∙ c.requires) outs first kept made keep c.in_ok-builder.ensures c.in_ok-keep.ensures
     c.in_ok-outs.ensures.emitted c.finish.result (subst IsProgram c.finish.ensures.program c.finish.ensures.job.program) c.finish.ensures.program
     (c.finish.ensures.ends ∙ c.plain_ends.ensures ∙ ap (λ b. plain_ends keep b outs) c.is_star-star.ensures)
-    (c.in_ok-outs.ensures.names ∙ c.names.ensures ∙ ap (λ (p : Query). names p.outs) (sym c.query-query.ensures)))
+    (c.in_ok-outs.ensures.names ∙ c.names.ensures ∙ ap (λ (p : Query). names p.outs) (sym c.query-query.ensures.is)))

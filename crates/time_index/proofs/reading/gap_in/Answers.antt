@@ -13,4 +13,4 @@ returns-then-gap-le-MOST_INDEX_BYTES-clause-spelled c =
     let all : AreBytes tail = λ i. omega (arith, c.type_inv.tail i) in
     let is : gap ≡ at - u64_at 0 tail = c.saturating_sub-gap.ensures ∙ ap (λ (n : ℕ). at - n) c.u64_at.ensures in
     tail_spells at tail gap all c.requires
-    (gap_some at gap tail (sym c.has_magic.ensures ∙ c.if-has_magic.true) is c.if-gap-ge10.true c.if-gap-le-MOST_INDEX_BYTES.true)
+    (gap_some at gap tail (sym c.has_magic.ensures ∙ c.if-has_magic.true) is c.if-gap-ge-LEAST_INDEX_BYTES.true c.if-gap-le-MOST_INDEX_BYTES.true)

@@ -1,23 +1,11 @@
-use Rattle.block_meaning.specs.CellReading.{blank_table}
-use Rattle.block_meaning.proofs.LastSymbol.{length_blank}
-use Rattle.ion_cells.specs.Shown.{shown, cell_bytes, cell_last, is_symbol_cell}
-use Rattle.ion_cells.proofs.Readers.{text_alone, text_part, no_text_part}
+use Rattle.ion_cells.specs.Shown.{shown}
+use Rattle.ion_cells.proofs.Denoting.{text_is, no_text_is}
 use Rattle.ion_cells.proofs.cell.Cell.text.Goals as goal
 
-pub returns-in-None : goal.returns-in-None
-unfolding shown cell_bytes cell_last
-returns-in-None c table h =
-    text_alone c.args.self.now.last c.args.self.now.bytes.now c.args.self.now.legal table h c.in-None.ensures (is_symbol_cell c.args.self.now)
+pub returns-in-Text : goal.returns-in-Text
+returns-in-Text c table h =
+    text_is c.args.self.now (shown table c.args.self.now) c.in-Text.text.now c.in-Text.ensures.symbol (c.in-Text.ensures.value table h)
 
-pub from_utf8_unchecked-requires : goal.from_utf8_unchecked-requires
-from_utf8_unchecked-requires c =
-    (text_part c.args.self.now.last c.args.self.now.bytes.now c.args.self.now.legal (blank_table c.args.self.now.last) (length_blank c.args.self.now.last) c.in-Some.kind _ c.in-Some.ensures c.if-kind-eq8.true).1
-
-pub returns-then-kind-eq8 : goal.returns-then-kind-eq8
-unfolding shown cell_bytes cell_last is_symbol_cell
-returns-then-kind-eq8 c table h = rw c.from_utf8_unchecked.ensures (text_part c.args.self.now.last c.args.self.now.bytes.now c.args.self.now.legal table h c.in-Some.kind _ c.in-Some.ensures c.if-kind-eq8.true).0
-
-pub returns-else-kind-eq8 : goal.returns-else-kind-eq8
-unfolding shown cell_bytes cell_last is_symbol_cell
-returns-else-kind-eq8 c table h =
-    no_text_part c.args.self.now.last c.args.self.now.bytes.now c.args.self.now.legal table h c.in-Some.kind _ c.in-Some.ensures c.if-kind-eq8.false
+pub returns-in_default : goal.returns-in_default
+returns-in_default c table h =
+    no_text_is c.args.self.now (shown table c.args.self.now) table c.content.result c.in_default.not-Text (c.content.ensures.value table h) c.content.ensures.symbol

@@ -1,0 +1,4 @@
+pub mod Places
+pub mod Slices
+pub mod Doubled
+pub mod Kept

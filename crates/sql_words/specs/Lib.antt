@@ -1,0 +1,4 @@
+pub mod Seen
+pub mod Gives
+pub mod Slices
+pub mod ReadsAt
