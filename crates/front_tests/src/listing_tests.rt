@@ -1,7 +1,6 @@
-ghost use Rattle.std.specs.Prelude.{◌≡◌, ◌<◌, ℕ, List, IfOk, OnOk, All};
+ghost use Rattle.std.specs.Prelude.{◌≡◌, ◌<◌, ℕ, List, [], IfOk, OnOk, All};
 ghost use Rattle.program_meaning.specs.Programs.{mask_count, value_count};
 ghost use Rattle.program_meaning.specs.Jobs.{IsAggregate, AreEnds};
-ghost use Rattle.tree_meaning.specs.WellFormed.{IsWellFormed};
 ghost use Rattle.lane_ssa.specs.Views.{ends_view};
 
 use crate::spelling::spell;
@@ -14,9 +13,7 @@ use std::alloc::Global;
 use tree_meaning::AggName;
 
 // The listing of the job of an accepted query, if it is lowered.
-fn job_listing(alloc: Global, checked: &Checked) -> Option<Bytes>
-    requires { IsWellFormed checked.now }
-{
+fn job_listing(alloc: Global, checked: &Checked) -> Option<Bytes> {
     if !is_lowered(checked.query()) {
         return None;
     }
@@ -61,7 +58,7 @@ static LISTINGS: [(&str, &str); 20] = [
         "SELECT a FROM t",
         "m0 = all\nr0 = root m0\nr1 = field m0 r0 \"a\"\nkeep m0\nout \"a\" r1\n",
     ),
-    ("SELECT * FROM t", "m0 = all\nkeep m0\nstar\n"),
+    ("SELECT * FROM t", "m0 = all\nr0 = root m0\nkeep m0\nstar\n"),
     (
         "SELECT a, b.c[1] AS x FROM t WHERE a IS NOT MISSING AND NOT (b IS NULL)",
         "m0 = all
@@ -69,21 +66,18 @@ r0 = root m0
 r1 = field m0 r0 \"a\"
 r2 = is m0 missing r1
 r3 = not m0 r2
-r4 = root m0
-r5 = field m0 r4 \"b\"
-r6 = is m0 null r5
-r7 = not m0 r6
-r8 = and m0 r3 r7
-m1 = true m0 r8
-r9 = root m1
-r10 = field m1 r9 \"a\"
-r11 = root m1
-r12 = field m1 r11 \"b\"
-r13 = field m1 r12 \"c\"
-r14 = at m1 r13 1
+r4 = field m0 r0 \"b\"
+r5 = is m0 null r4
+r6 = not m0 r5
+r7 = and m0 r3 r6
+m1 = true m0 r7
+r8 = field m1 r0 \"a\"
+r9 = field m1 r0 \"b\"
+r10 = field m1 r9 \"c\"
+r11 = at m1 r10 1
 keep m1
-out \"a\" r10
-out \"x\" r14
+out \"a\" r8
+out \"x\" r11
 ",
     ),
     (
@@ -100,59 +94,59 @@ out \"x\" r14
     ),
     (
         "SELECT NOT TRUE FROM t",
-        "m0 = all\nr0 = const m0 TRUE\nr1 = not m0 r0\nkeep m0\nout \"_1\" r1\n",
+        "m0 = all\nr0 = root m0\nr1 = const m0 TRUE\nr2 = not m0 r1\nkeep m0\nout \"_1\" r2\n",
     ),
     (
         "SELECT 1 IS NULL FROM t",
-        "m0 = all\nr0 = const m0 1\nr1 = is m0 null r0\nkeep m0\nout \"_1\" r1\n",
+        "m0 = all\nr0 = root m0\nr1 = const m0 1\nr2 = is m0 null r1\nkeep m0\nout \"_1\" r2\n",
     ),
     (
         "SELECT 1 IS MISSING FROM t",
-        "m0 = all\nr0 = const m0 1\nr1 = is m0 missing r0\nkeep m0\nout \"_1\" r1\n",
+        "m0 = all\nr0 = root m0\nr1 = const m0 1\nr2 = is m0 missing r1\nkeep m0\nout \"_1\" r2\n",
     ),
     (
         "SELECT 1 IS TRUE FROM t",
-        "m0 = all\nr0 = const m0 1\nr1 = is m0 true r0\nkeep m0\nout \"_1\" r1\n",
+        "m0 = all\nr0 = root m0\nr1 = const m0 1\nr2 = is m0 true r1\nkeep m0\nout \"_1\" r2\n",
     ),
     (
         "SELECT 1 IS FALSE FROM t",
-        "m0 = all\nr0 = const m0 1\nr1 = is m0 false r0\nkeep m0\nout \"_1\" r1\n",
+        "m0 = all\nr0 = root m0\nr1 = const m0 1\nr2 = is m0 false r1\nkeep m0\nout \"_1\" r2\n",
     ),
     (
         "SELECT TRUE AND FALSE FROM t",
-        "m0 = all\nr0 = const m0 TRUE\nr1 = const m0 FALSE\nr2 = and m0 r0 r1\nkeep m0\nout \"_1\" r2\n",
+        "m0 = all\nr0 = root m0\nr1 = const m0 TRUE\nr2 = const m0 FALSE\nr3 = and m0 r1 r2\nkeep m0\nout \"_1\" r3\n",
     ),
     (
         "SELECT TRUE OR FALSE FROM t",
-        "m0 = all\nr0 = const m0 TRUE\nr1 = const m0 FALSE\nr2 = or m0 r0 r1\nkeep m0\nout \"_1\" r2\n",
+        "m0 = all\nr0 = root m0\nr1 = const m0 TRUE\nr2 = const m0 FALSE\nr3 = or m0 r1 r2\nkeep m0\nout \"_1\" r3\n",
     ),
     (
         "SELECT NULL FROM t",
-        "m0 = all\nr0 = const m0 NULL\nkeep m0\nout \"_1\" r0\n",
+        "m0 = all\nr0 = root m0\nr1 = const m0 NULL\nkeep m0\nout \"_1\" r1\n",
     ),
     (
         "SELECT MISSING FROM t",
-        "m0 = all\nr0 = const m0 MISSING\nkeep m0\nout \"_1\" r0\n",
+        "m0 = all\nr0 = root m0\nr1 = const m0 MISSING\nkeep m0\nout \"_1\" r1\n",
     ),
     (
         "SELECT TRUE FROM t",
-        "m0 = all\nr0 = const m0 TRUE\nkeep m0\nout \"_1\" r0\n",
+        "m0 = all\nr0 = root m0\nr1 = const m0 TRUE\nkeep m0\nout \"_1\" r1\n",
     ),
     (
         "SELECT FALSE FROM t",
-        "m0 = all\nr0 = const m0 FALSE\nkeep m0\nout \"_1\" r0\n",
+        "m0 = all\nr0 = root m0\nr1 = const m0 FALSE\nkeep m0\nout \"_1\" r1\n",
     ),
     (
         "SELECT 17 FROM t",
-        "m0 = all\nr0 = const m0 17\nkeep m0\nout \"_1\" r0\n",
+        "m0 = all\nr0 = root m0\nr1 = const m0 17\nkeep m0\nout \"_1\" r1\n",
     ),
     (
         "SELECT `1970-01-01 00:00:00z` FROM t",
-        "m0 = all\nr0 = const m0 `1970-01-01T00:00:00Z`\nkeep m0\nout \"_1\" r0\n",
+        "m0 = all\nr0 = root m0\nr1 = const m0 `1970-01-01T00:00:00Z`\nkeep m0\nout \"_1\" r1\n",
     ),
     (
         "SELECT 'it''s' FROM t",
-        "m0 = all\nr0 = const m0 'it''s'\nkeep m0\nout \"_1\" r0\n",
+        "m0 = all\nr0 = root m0\nr1 = const m0 'it''s'\nkeep m0\nout \"_1\" r1\n",
     ),
 ];
 
@@ -181,23 +175,24 @@ fn a_deep_expression_has_its_listing(rt: HostRuntime) {
     assert!(rt; is_deep_listed(rt.alloc(), end));
 }
 
-// Adds the masks 0 and 1, and the values 0 and 1.
+// Adds three masks and three values.
 fn put_program(builder: &mut Builder) -> Result<(), OutOfMemory>
-    requires masks { mask_count builder.old ≡ 0 }
-    requires values { value_count builder.old ≡ 0 }
-    ensures masks { OnOk result (mask_count builder.new ≡ 2) }
-    ensures values { OnOk result (value_count builder.new ≡ 2) }
+    requires { builder.old ≡ [] }
+    ensures masks { OnOk result (mask_count builder.new ≡ 3) }
+    ensures values { OnOk result (value_count builder.new ≡ 3) }
 {
     let mask = builder.put(Instr::All)?;
-    builder.put(Instr::Root { mask })?;
-    builder.put(Instr::All)?;
+    let a = builder.put(Instr::Root { mask })?;
+    let pick = builder.put(Instr::All)?;
     let value = Value::Int(-5);
-    builder.put(Instr::Const { mask, value })?;
+    let b = builder.put(Instr::Const { mask, value })?;
+    builder.put(Instr::Minus { mask, less: pick })?;
+    builder.put(Instr::Merge { mask, pick, a, b })?;
     Ok(())
 }
 
 fn outs(alloc: Global) -> Result<EndOuts, OutOfMemory>
-    ensures { IfOk result (λ xs. All (λ (o : List ℕ × ℕ). o.1 < 2) xs) }
+    ensures { IfOk result (λ xs. All (λ (o : List ℕ × ℕ). o.1 < 3) xs) }
 {
     let mut outs = EndOuts::new(alloc);
     outs.push(EndOut {
@@ -208,7 +203,7 @@ fn outs(alloc: Global) -> Result<EndOuts, OutOfMemory>
 }
 
 fn first_value(alloc: Global) -> Result<Registers, OutOfMemory>
-    ensures { IfOk result (λ xs. All (λ (r : ℕ). r < 2) xs) }
+    ensures { IfOk result (λ xs. All (λ (r : ℕ). r < 3) xs) }
 {
     let mut registers = Registers::new(alloc);
     registers.push(0)?;
@@ -216,7 +211,7 @@ fn first_value(alloc: Global) -> Result<Registers, OutOfMemory>
 }
 
 fn aggs(alloc: Global) -> Result<EndAggs, OutOfMemory>
-    ensures { IfOk result (λ xs. All (IsAggregate 2) xs) }
+    ensures { IfOk result (λ xs. All (IsAggregate 3) xs) }
 {
     let mut aggs = EndAggs::new(alloc);
     aggs.push(EndAgg {
@@ -231,7 +226,7 @@ fn aggs(alloc: Global) -> Result<EndAggs, OutOfMemory>
 }
 
 fn all_ends(alloc: Global) -> Result<Ends, OutOfMemory>
-    ensures { IfOk result (λ e. AreEnds 2 2 (ends_view e)) }
+    ensures { IfOk result (λ e. AreEnds 3 3 (ends_view e)) }
 {
     Ok(Ends {
         keep: 0,
@@ -246,8 +241,8 @@ fn all_ends(alloc: Global) -> Result<Ends, OutOfMemory>
 
 // The listing of a job with each end.
 fn all_listed(alloc: Global, program: Builder) -> Option<Bytes>
-    requires masks { mask_count program ≡ 2 }
-    requires values { value_count program ≡ 2 }
+    requires masks { mask_count program ≡ 3 }
+    requires values { value_count program ≡ 3 }
 {
     match all_ends(alloc) {
         Ok(ends) => {
@@ -267,6 +262,8 @@ const ALL_ENDS: &str = "m0 = all
 r0 = root m0
 m1 = all
 r1 = const m0 -5
+m2 = minus m0 m1
+r2 = merge m0 m1 r0 r1
 keep m0
 out \"a\"\"b\" r0
 sort r0
@@ -289,7 +286,7 @@ fn lists_all_ends(alloc: Global) -> bool {
     }
 }
 
-// Lines that no query has today: a second mask of all rows, a negative number, and each end.
+// Lines that no query has today: a second mask of all rows, a negative number, the rest of a mask, a merge, and each end.
 #[test]
 fn all_ends_are_listed(rt: HostRuntime) {
     assert!(rt; lists_all_ends(rt.alloc()));
