@@ -1,22 +1,19 @@
-use crate::run::snel;
+use crate::test_calls::ends_on;
 use crate::test_files::{OF_A_AND_B, block_of, file_of};
-use crate::tests::words_of;
 use block_file::open_block;
 use eval_row::eval_row;
 use ion_symtab::value_of;
 use json_out::LineMaker;
-use snel_device::{MemFiles, MemOut, OpenGate, SteadyInput, SteadyOut};
+use query_tree::{Item, Operand, OutItems, Outputs, Query};
 use snel_values::{Bytes, Items, Value};
 use sql_reader::read;
-use query_tree::{Expr, OutItems, Outputs, Query};
 use std::alloc::Global;
-use std::process::Abort;
 use std::test::Fail;
 use std::thread::Threads;
 
 // Rows of every kind: {}, and `a` as NULL, truth values, numbers, a text, a time, lists and structs, and pairs of these in `a`
 // and `b`.
-const ROWS: [&[u8]; 20] = [
+static ROWS: [&[u8]; 20] = [
     b"\xd0",
     b"\xd2\x8a\x0f",
     b"\xd2\x8a\x11",
@@ -39,101 +36,8 @@ const ROWS: [&[u8]; 20] = [
     b"\xd4\x8a\x0f\x8b\x0f",
 ];
 
-// The rows of a block, as values.
-fn values_in(alloc: Global, block: &[u8]) -> Result<Items, Fail> {
-    let block = open_block(alloc, block, 20)?;
-    let mut rows = Items::new(alloc);
-    for at in 0..block.rows() {
-        rows.push(value_of(alloc, &block.row(at), block.table())?)?;
-    }
-    Ok(rows)
-}
-
-// Whether the plain evaluator keeps a row.
-fn is_kept(alloc: Global, filter: &Option<Expr>, row: &Value) -> Result<bool, Fail> {
-    match filter {
-        None => Ok(true),
-        Some(test) => Ok(matches!(eval_row(alloc, test, row)?, Value::Bool(true))),
-    }
-}
-
-// Adds the pair of a name and what the plain evaluator makes of an expression on a row.
-fn add_pair(
-    alloc: Global,
-    line: &mut LineMaker,
-    name: &str,
-    expr: &Expr,
-    row: &Value,
-) -> Result<(), Fail> {
-    let value = eval_row(alloc, expr, row)?;
-    if !LineMaker::takes(&value) {
-        return Err("no line".into());
-    }
-    line.put_value(name, &value)?;
-    Ok(())
-}
-
-// The line of named outputs on a row, by the plain evaluator.
-fn line_of(alloc: Global, items: &OutItems, row: &Value) -> Result<Bytes, Fail> {
-    let mut line = LineMaker::new(alloc)?;
-    for at in 0..items.len() {
-        let Some(item) = items.get(at) else { continue };
-        let Some(name) = &item.name else {
-            return Err("no name".into())
-        };
-        add_pair(alloc, &mut line, name.as_str(), &item.expr, row)?;
-    }
-    Ok(line.finish()?)
-}
-
-// The lines of a query with named outputs over rows, by the plain evaluator.
-fn lines_of(alloc: Global, query: &Query, rows: &Items) -> Result<Bytes, Fail> {
-    let Outputs::Named(items) = &query.outputs else {
-        return Err("no outputs".into())
-    };
-    let mut lines = Bytes::new(alloc);
-    for row in rows.as_slice() {
-        if is_kept(alloc, &query.filter, row)? {
-            lines.push_all(line_of(alloc, items, row)?.as_slice())?;
-        }
-    }
-    Ok(lines)
-}
-
-// Whether a query over the rows is answered with the lines of the plain evaluator.
-fn agrees<R: Threads + Sync + Abort + AllocGlobal>(rt: &R, sql: &str) -> Result<(), Fail> {
-    let alloc = rt.alloc();
-    let rows = values_in(alloc, &block_of(alloc, OF_A_AND_B, &ROWS)?)?;
-    let wanted = lines_of(alloc, &read(alloc, sql)?, &rows)?;
-    let mut files = MemFiles::new(alloc, &[])?;
-    files.insert("rows", &file_of(alloc, OF_A_AND_B, &ROWS)?)?;
-    let words = words_of(alloc, &["query", sql, "rows"])?;
-    let (mut input, mut err) = (SteadyInput::new(&[]), SteadyOut::new());
-    let mut out = MemOut::new(alloc, &[])?;
-    let status = snel(
-        rt, alloc, &words, &mut files, &mut input, &mut out, &mut err, &OpenGate,
-    );
-    assert_eq!(rt; status, 0, "{sql}");
-    assert!(rt; out.bytes() == wanted.as_slice(), "{sql}");
-    Ok(())
-}
-
-// The same of an expression, as an output and in WHERE.
-fn agrees_on<R: Threads + Sync + Abort + AllocGlobal>(
-    rt: &R,
-    before: &str,
-    middle: &str,
-    behind: &str,
-) -> Result<(), Fail> {
-    let alloc = rt.alloc();
-    let output = format!(in alloc; "SELECT {before}{middle}{behind} AS v FROM t")?;
-    agrees(rt, &output)?;
-    let filter = format!(in alloc; "SELECT a AS a, b AS b FROM t WHERE {before}{middle}{behind}")?;
-    agrees(rt, &filter)
-}
-
 // Each form of one operand.
-const FORMS: [(&str, &str); 8] = [
+static FORMS: [(&str, &str); 8] = [
     ("", ""),
     ("NOT ", ""),
     ("", " IS NULL"),
@@ -144,14 +48,7 @@ const FORMS: [(&str, &str); 8] = [
     ("NOT ", " IS FALSE"),
 ];
 
-fn forms_agree<R: Threads + Sync + Abort + AllocGlobal>(rt: &R, operand: &str) -> Result<(), Fail> {
-    for (before, behind) in FORMS {
-        agrees_on(rt, before, operand, behind)?;
-    }
-    Ok(())
-}
-
-const OPERANDS: [&str; 13] = [
+static OPERANDS: [&str; 13] = [
     "a",
     "b",
     "a.a",
@@ -167,55 +64,176 @@ const OPERANDS: [&str; 13] = [
     "`2024-02-29T23:59:59.999999Z`",
 ];
 
+// The operands of AND and OR: one of each class that the tables of truth tell apart, and paths.
+static SIDES: [&str; 7] = ["a", "b", "a.b", "NULL", "MISSING", "TRUE", "FALSE"];
+
+static NESTED: [&str; 6] = [
+    "NOT (a AND NOT b)",
+    "(a IS NULL OR b) AND NOT (a.b IS MISSING)",
+    "a AND b OR NOT a AND NOT b",
+    "(a OR b) IS NULL",
+    "(NOT a) IS MISSING",
+    "NOT NOT NOT a",
+];
+
+// The rows, as a block and as a file.
+#[derive(Drop)]
+struct Stored {
+    block: Vec<u8>,
+    file: Vec<u8>,
+}
+
+fn stored_rows(alloc: Global) -> Result<Stored, Fail> {
+    Ok(Stored {
+        block: block_of(alloc, OF_A_AND_B, &ROWS)?,
+        file: file_of(alloc, OF_A_AND_B, &ROWS)?,
+    })
+}
+
 #[test]
 fn forms_of_one_operand_agree(rt: HostRuntime) -> Result<(), Fail> {
-    for operand in OPERANDS {
-        forms_agree(&rt, operand)?;
+    let stored = stored_rows(rt.alloc())?;
+    for operand in &OPERANDS {
+        for (before, behind) in &FORMS {
+            assert!(rt;
+                agrees_on(&rt, &stored, before, operand, behind),
+                "{before}{operand}{behind}"
+            );
+        }
     }
     Ok(())
 }
 
-// The operands of AND and OR: one of each class that the tables of truth tell apart, and paths.
-const SIDES: [&str; 7] = ["a", "b", "a.b", "NULL", "MISSING", "TRUE", "FALSE"];
-
-fn pairs_agree<R: Threads + Sync + Abort + AllocGlobal>(
-    rt: &R,
-    left: &str,
-    op: &str,
-) -> Result<(), Fail> {
-    for right in SIDES {
-        agrees_on(rt, left, op, right)?;
+// Whether an operator agrees on all pairs of operands.
+fn pairs_agree<R: Threads + Sync + AllocGlobal>(rt: &R, stored: &Stored, op: &str) -> bool {
+    for left in &SIDES {
+        for right in &SIDES {
+            if !agrees_on(rt, stored, left, op, right) {
+                return false;
+            }
+        }
     }
-    Ok(())
-}
-
-#[test]
-fn conjunctions_agree(rt: HostRuntime) -> Result<(), Fail> {
-    for left in SIDES {
-        pairs_agree(&rt, left, " AND ")?;
-    }
-    Ok(())
+    true
 }
 
 #[test]
-fn disjunctions_agree(rt: HostRuntime) -> Result<(), Fail> {
-    for left in SIDES {
-        pairs_agree(&rt, left, " OR ")?;
-    }
+fn conjunctions_and_disjunctions_agree(rt: HostRuntime) -> Result<(), Fail> {
+    let stored = stored_rows(rt.alloc())?;
+    assert!(rt; pairs_agree(&rt, &stored, " AND "));
+    assert!(rt; pairs_agree(&rt, &stored, " OR "));
     Ok(())
 }
 
 #[test]
 fn nested_forms_agree(rt: HostRuntime) -> Result<(), Fail> {
-    for expr in [
-        "NOT (a AND NOT b)",
-        "(a IS NULL OR b) AND NOT (a.b IS MISSING)",
-        "a AND b OR NOT a AND NOT b",
-        "(a OR b) IS NULL",
-        "(NOT a) IS MISSING",
-        "NOT NOT NOT a",
-    ] {
-        agrees_on(&rt, "", expr, "")?;
+    let stored = stored_rows(rt.alloc())?;
+    for expr in &NESTED {
+        assert!(rt; agrees_on(&rt, &stored, "", expr, ""), "{expr}");
     }
     Ok(())
+}
+
+// Whether an expression, as an output and in WHERE, is answered as the plain evaluator answers it.
+fn agrees_on<R: Threads + Sync + AllocGlobal>(
+    rt: &R,
+    stored: &Stored,
+    before: &str,
+    middle: &str,
+    behind: &str,
+) -> bool {
+    let alloc = rt.alloc();
+    let (Ok(output), Ok(filter)) = (
+        format!(in alloc; "SELECT {before}{middle}{behind} AS v FROM t"),
+        format!(in alloc; "SELECT a AS a, b AS b FROM t WHERE {before}{middle}{behind}"),
+    ) else {
+        return false;
+    };
+    agrees(rt, stored, output.as_str()) && agrees(rt, stored, filter.as_str())
+}
+
+// Whether a query over the rows is answered with the lines of the plain evaluator.
+fn agrees<R: Threads + Sync + AllocGlobal>(rt: &R, stored: &Stored, sql: &str) -> bool {
+    match plain_lines(rt.alloc(), stored, sql) {
+        Some(wanted) => ends_on(rt, sql, &stored.file, (0, wanted.as_slice(), "")),
+        None => false,
+    }
+}
+
+// The lines of a query over the rows, by the plain evaluator.
+fn plain_lines(alloc: Global, stored: &Stored, sql: &str) -> Option<Bytes> {
+    match read(alloc, sql) {
+        Ok(query) => {
+            let lines = lines_of(alloc, &stored.block, &query);
+            drop(query);
+            lines
+        }
+        Err(_) => None,
+    }
+}
+
+fn lines_of(alloc: Global, block: &[u8], query: &Query) -> Option<Bytes> {
+    let Outputs::Named(items) = &query.outputs else {
+        return None;
+    };
+    let rows = values_in(alloc, block)?;
+    let mut lines = Bytes::new(alloc);
+    for row in rows.as_slice() {
+        add_line(alloc, &mut lines, items, &query.filter, row)?;
+    }
+    Some(lines)
+}
+
+// The rows of a block, as values.
+fn values_in(alloc: Global, block: &[u8]) -> Option<Items> {
+    let block = open_block(alloc, block, 20).ok()?;
+    let mut rows = Items::new(alloc);
+    for at in 0..block.rows() {
+        let row = value_of(alloc, &block.row(at), block.table()).ok()?;
+        rows.push(row).ok()?;
+    }
+    Some(rows)
+}
+
+// Adds the line of a row, if WHERE keeps it.
+fn add_line(
+    alloc: Global,
+    lines: &mut Bytes,
+    items: &OutItems,
+    filter: &Option<Operand>,
+    row: &Value,
+) -> Option<()> {
+    if is_kept(alloc, filter, row)? {
+        let line = line_of(alloc, items, row)?;
+        lines.push_all(line.as_slice()).ok()?;
+    }
+    Some(())
+}
+
+fn is_kept(alloc: Global, filter: &Option<Operand>, row: &Value) -> Option<bool> {
+    match filter {
+        None => Some(true),
+        Some(test) => {
+            let value = eval_row(alloc, test, row, &Value::Missing).ok()?;
+            Some(matches!(&value, Value::Bool(true)))
+        }
+    }
+}
+
+// The line of named outputs on a row.
+fn line_of(alloc: Global, items: &OutItems, row: &Value) -> Option<Bytes> {
+    let mut line = LineMaker::new(alloc).ok()?;
+    for at in 0..items.len() {
+        let Some(item) = items.get(at) else { continue };
+        add_pair(alloc, &mut line, item, row)?;
+    }
+    line.finish().ok()
+}
+
+fn add_pair(alloc: Global, line: &mut LineMaker, item: &Item, row: &Value) -> Option<()> {
+    let Some(name) = &item.name else { return None };
+    let value = eval_row(alloc, &item.expr, row, &Value::Missing).ok()?;
+    if !LineMaker::takes(&value) {
+        return None;
+    }
+    line.put_value(name.as_str(), &value).ok()
 }

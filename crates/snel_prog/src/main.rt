@@ -10,6 +10,8 @@ mod refusal;
 mod report;
 mod run;
 #[cfg(test)]
+mod test_calls;
+#[cfg(test)]
 mod test_files;
 #[cfg(test)]
 mod tests;
