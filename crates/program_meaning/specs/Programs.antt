@@ -19,7 +19,7 @@ mask_count xs = count_by makes_mask xs
 abbrev pub value_count : List Instr → ℕ
 value_count xs = count_by makes_value xs
 
--- a literal: no list and no struct, a number and a time in their ranges
+-- a constant: no list and no struct, a number and a time in their ranges
 abbrev pub IsConstant : Val → Type 0
 IsConstant missing = Unit {0}
 IsConstant null = Unit {0}
@@ -40,8 +40,8 @@ is_unix func.UnixEpoch = true
 is_unix func.UnixMicro = true
 is_unix f = false
 
--- The registers that an instruction names are among the first m masks and v values; a literal is one, and a function takes
--- its part of a time.
+-- The registers that an instruction names are among the first m masks and v values; a constant is one, and a function
+-- takes its part of a time.
 abbrev pub IsInstruction : ℕ → ℕ → Instr → Type 0
 IsInstruction m v instr.all = Unit {0}
 IsInstruction m v (instr.holding k a) = (k < m) × (a < v)

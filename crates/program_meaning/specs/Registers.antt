@@ -14,7 +14,7 @@ use Rattle.eval_meaning.specs.Evaluation.{binary, call_of}
 use Rattle.program_meaning.specs.Instructions.{Instr}
 use Rattle.program_meaning.specs.Instructions as instr
 
--- what one lane is given: whether it is live, which is whether a row stands in it, and its row and item
+-- what one lane is given: whether it is live, which is whether a pair stands in it, and its pair
 pub record Lane : Type 0 where
   pub live : Bool
   pub pair : Pair

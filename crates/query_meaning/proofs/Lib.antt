@@ -7,3 +7,4 @@ pub mod Formed
 pub mod FormedShort
 pub mod Spans
 pub mod Verdicts
+pub mod SomeVerdict

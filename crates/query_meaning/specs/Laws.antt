@@ -20,6 +20,10 @@ pub record ReadsExactly : Type 0 where
 abbrev pub OneVerdict : Type 0
 OneVerdict = (v w : Verdict) (text : List ℕ) → ComesTo text v → ComesTo text w → v ≡ w
 
+-- a text comes to some verdict
+abbrev pub SomeVerdict : Type 0
+SomeVerdict = (text : List ℕ) → (v : Verdict) × ComesTo text v
+
 -- a query of the tokens of a text is well formed
 abbrev pub QueriesAreWellFormed : Type 0
 QueriesAreWellFormed = (text : List ℕ) (spans : List Span) (q : Query) → spans_of text ≡ Ok spans → IsQuery (tokens_in text spans) q → IsWellFormed q

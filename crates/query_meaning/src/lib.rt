@@ -125,7 +125,7 @@ pub enum Level {
     Term,
 }
 
-ghost use Rattle.query_meaning.specs.Laws.{OneQuery, OneVerdict, QueriesAreWellFormed, ReadsExactly};
+ghost use Rattle.query_meaning.specs.Laws.{OneQuery, OneVerdict, QueriesAreWellFormed, ReadsExactly, SomeVerdict};
 
 /// A list of tokens has at most one query.
 pub fn one_query()
@@ -140,6 +140,11 @@ pub fn reads_exactly()
 /// A text comes to one verdict: one fault, or one query.
 pub fn one_verdict()
     ensures { OneVerdict }
+{}
+
+/// A text comes to some verdict.
+pub fn some_verdict()
+    ensures { SomeVerdict }
 {}
 
 /// A query of the tokens of a text is well formed.

@@ -9,7 +9,8 @@ use Rattle.query_meaning.specs.Tokens.{Toks}
 use Rattle.sql_words.specs.declared.fault.ParseFault.{ParseFault}
 use Rattle.sql_words.specs.declared.fault.ParseFault.TheVariants as fault
 use Rattle.sql_words.specs.Gives.{Fails}
-use Rattle.query_meaning.specs.Reading.{after, operator_at, step_at, steps_at, Reader, more_by, whens_by, list_by}
+use Rattle.sql_grammar.specs.Rules as rule
+use Rattle.query_meaning.specs.Reading.{◌>>=◌, match_option, after, operator_at, step_at, steps_at, Reader, more_by, whens_by, list_by}
 
 -- what is read stands behind these
 abbrev pub behind_list : {A : Type 0} → List A → List A × Toks → List A × Toks
@@ -80,30 +81,46 @@ regroup_arms : (front : List (Ex × Ex)) (a b : Ex) (o : Armed) → option_map (
 regroup_arms front a b None = refl
 regroup_arms front a b (Some x) = ap (λ (z : Arms). let o : Armed = Some (z, x.1) in o) (sym (with_front-push front a b x.0))
 
-module _ (room turn : ℕ) (h : turn < room) (f : Reader Ex) (read : Armed) (front : List (Ex × Ex)) (rest r s t : Toks) (a b : Ex) (behind : Toks) (sofar : read ≡ option_map (behind_arms front) (whens_by f (room - turn) rest)) (when : after m.When rest ≡ Some r) (first : f r ≡ Some (a, s)) (then : after m.Then s ≡ Some t) (second : f t ≡ Some (b, behind)) where
-  pub whens_stop : None ≡ after m.When behind → read ≡ Some (arms (front ++ (a, b) ∷ []), behind)
-  whens_stop e = rw (sofar, next room turn h, when, first, then, second, ← e) (ap (λ (z : Arms). let o : Armed = Some (z, behind) in o) (sym (with_front-push front a b no_arms) ∙ with_front-none (front ++ (a, b) ∷ [])))
+-- an arm, and what is made of it
+module _ (f : Reader Ex) (k : (Ex × Ex) × Toks → Armed) where
+  with_value : (a : Ex) (o : Option (Ex × Toks)) → (o >>= λ b. k ((a, b.0), b.1)) ≡ ((o >>= λ b. (let p : Option ((Ex × Ex) × Toks) = Some ((a, b.0), b.1) in p)) >>= k)
+  with_value a None = refl
+  with_value a (Some b) = refl
 
-  pub whens_go_on : (q : Toks) → Some q ≡ after m.When behind → read ≡ option_map (behind_arms (front ++ (a, b) ∷ [])) (whens_by f (room - (turn + 1)) behind)
-  whens_go_on q e = rw (sofar, next room turn h, when, first, then, second, ← e) (regroup_arms front a b (whens_by f (room - (turn + 1)) behind))
+  behind_then : (a : Ex) (o : Option Toks) → (o >>= λ s. f s >>= λ b. k ((a, b.0), b.1)) ≡ ((o >>= λ s. f s >>= λ b. (let p : Option ((Ex × Ex) × Toks) = Some ((a, b.0), b.1) in p)) >>= k)
+  behind_then a None = refl
+  behind_then a (Some s) = with_value a (f s)
 
--- want of a form within an arm
-module _ (room turn : ℕ) (h : turn < room) (f : Reader Ex) (read : Armed) (front : List (Ex × Ex)) (rest r s t : Toks) (a : Ex) (sofar : read ≡ option_map (behind_arms front) (whens_by f (room - turn) rest)) (when : after m.When rest ≡ Some r) (first : f r ≡ Some (a, s)) where
-  pub no_then : after m.Then s ≡ None → read ≡ None
-  no_then e = sofar ∙ (rw (next room turn h, when, first, e) refl)
+  with_test : (o : Option (Ex × Toks)) → (o >>= λ a. after m.Then a.1 >>= λ s. f s >>= λ b. k ((a.0, b.0), b.1)) ≡ ((o >>= λ a. after m.Then a.1 >>= λ s. f s >>= λ b. (let p : Option ((Ex × Ex) × Toks) = Some ((a.0, b.0), b.1) in p)) >>= k)
+  with_test None = refl
+  with_test (Some a) = behind_then a.0 (after m.Then a.1)
 
-  pub no_value : after m.Then s ≡ Some t → f t ≡ None → read ≡ None
-  no_value e g = sofar ∙ (rw (next room turn h, when, first, e, g) refl)
+  behind_when : (o : Option Toks) → (o >>= λ r. f r >>= λ a. after m.Then a.1 >>= λ s. f s >>= λ b. k ((a.0, b.0), b.1)) ≡ ((o >>= λ r. f r >>= λ a. after m.Then a.1 >>= λ s. f s >>= λ b. (let p : Option ((Ex × Ex) × Toks) = Some ((a.0, b.0), b.1) in p)) >>= k)
+  behind_when None = refl
+  behind_when (Some r) = with_test (f r)
+
+-- an arm, and more where another WHEN follows
+more_arms : Reader Ex → ℕ → (Ex × Ex) × Toks → Armed
+more_arms f n x = match_option (after m.When x.1) (Some (arm x.0.0 x.0.1 no_arms, x.1)) (λ _. option_map (λ (y : Arms × Toks). (arm x.0.0 x.0.1 y.0, y.1)) (whens_by f n x.1))
+
+arm_first : (f : Reader Ex) (n : ℕ) (ts : Toks) → whens_by f (suc n) ts ≡ (rule.arm f ts >>= more_arms f n)
+unfolding more_arms
+arm_first f n ts = behind_when f (more_arms f n) (after m.When ts)
+
+module _ (room turn : ℕ) (h : turn < room) (f : Reader Ex) (read : Armed) (front : List (Ex × Ex)) (rest : Toks) (sofar : read ≡ option_map (behind_arms front) (whens_by f (room - turn) rest)) where
+  pub no_arm : rule.arm f rest ≡ None → read ≡ None
+  no_arm e = sofar ∙ (rw (next room turn h, arm_first f (room - (turn + 1)) rest, e) refl)
+
+  module _ (w : Ex × Ex) (behind : Toks) (one : rule.arm f rest ≡ Some (w, behind)) where
+    pub whens_stop : None ≡ after m.When behind → read ≡ Some (arms (front ++ w ∷ []), behind)
+    unfolding more_arms
+    whens_stop e = rw (sofar, next room turn h, arm_first f (room - (turn + 1)) rest, one, ← e) (ap (λ (z : Arms). let o : Armed = Some (z, behind) in o) (sym (with_front-push front w.0 w.1 no_arms) ∙ with_front-none (front ++ w ∷ [])))
+
+    pub whens_go_on : (q : Toks) → Some q ≡ after m.When behind → read ≡ option_map (behind_arms (front ++ w ∷ [])) (whens_by f (room - (turn + 1)) behind)
+    unfolding more_arms
+    whens_go_on q e = rw (sofar, next room turn h, arm_first f (room - (turn + 1)) rest, one, ← e) (regroup_arms front w.0 w.1 (whens_by f (room - (turn + 1)) behind))
 
 -- a fault that a call handed on
 pub handed_on : {X Y : Type 0} (e : ParseFault) (o : Option X) (read : Option Y) → Fails e o → (o ≡ None → read ≡ None) → Fails e read
 handed_on fault.NotAQuery o read h go = go h
 handed_on fault.OutOfMemory o read h go = tt
-
--- want of the test of an arm
-pub no_test : (room turn : ℕ) (h : turn < room) (f : Reader Ex) (read : Armed) (front : List (Ex × Ex)) (rest r : Toks) → read ≡ option_map (behind_arms front) (whens_by f (room - turn) rest) → after m.When rest ≡ Some r → f r ≡ None → read ≡ None
-no_test room turn h f read front rest r sofar when e = sofar ∙ (rw (next room turn h, when, e) refl)
-
--- want of an arm
-pub no_when : (room turn : ℕ) (h : turn < room) (f : Reader Ex) (read : Armed) (front : List (Ex × Ex)) (rest : Toks) → read ≡ option_map (behind_arms front) (whens_by f (room - turn) rest) → after m.When rest ≡ None → read ≡ None
-no_when room turn h f read front rest sofar e = sofar ∙ (rw (next room turn h, e) refl)

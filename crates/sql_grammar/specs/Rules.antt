@@ -1,13 +1,14 @@
 -- The rules of expressions within which there is room for so many.
-use Rattle.std.specs.Prelude.{ℕ, List}
+use Rattle.std.specs.Prelude.{ℕ, List, Some}
 use Rattle.tree_meaning.specs.declared.BinOp.{BinOp}
 use Rattle.tree_meaning.specs.declared.How.{How}
 use Rattle.tree_meaning.specs.Tree.{Ex, Arms}
 use Rattle.query_meaning.specs.declared.FunctionWord.{FunctionWord}
 use Rattle.query_meaning.specs.declared.Level.{Level}
 use Rattle.query_meaning.specs.declared.Mark.{Mark}
+use Rattle.query_meaning.specs.declared.Mark.TheVariants as m
 use Rattle.query_meaning.specs.Reading as read
-use Rattle.query_meaning.specs.Reading.{Reader, expr_at}
+use Rattle.query_meaning.specs.Reading.{◌>>=◌, Reader, after, expr_at}
 use Rattle.sql_grammar.specs.Tails.{compared_by, denied_by}
 
 abbrev pub list : ℕ → Reader (List Ex)
@@ -87,6 +88,14 @@ cast n = read.cast_by (expr_at n)
 
 abbrev pub case : ℕ → Reader Ex
 case n = read.case_by (expr_at n) n
+
+abbrev pub arm : Reader Ex → Reader (Ex × Ex)
+arm f ts = do
+  r ← after m.When ts
+  a ← f r
+  s ← after m.Then a.1
+  b ← f s
+  Some ((a.0, b.0), b.1)
 
 abbrev pub whens : ℕ → Reader Arms
 whens n = read.whens_by (expr_at n) n

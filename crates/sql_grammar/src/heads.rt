@@ -76,8 +76,8 @@ fn added_at(looks: &[Look<'_>], at: usize) -> Result<(Part, usize), ParseFault>
     }
 }
 
-/// What stands before the expressions of a call, behind its word and `(`, and the place of the first
-/// of them.
+/// What stands before the expressions of a call, behind its word and `(`, and the place of the
+/// first of them.
 #[tactic(auto, unfolding(query_meaning::specs::Reading::head_at))]
 pub(crate) fn head_at(
     word: FunctionWord,

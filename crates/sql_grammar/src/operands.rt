@@ -1,4 +1,10 @@
+ghost use Rattle.std.specs.Prelude.{◌≡◌, IfOk};
+ghost use Rattle.value_meaning.specs.Val.{text};
 ghost use Rattle.tree_meaning.specs.Tree as tree;
+ghost use Rattle.query_meaning.specs.Reading as spec;
+ghost use Rattle.query_meaning.specs.Tokens.{undoubled};
+ghost use Rattle.query_tree.specs.View.{arm_view};
+ghost use Rattle.sql_grammar.specs.PathForms.{path_behind};
 ghost use Rattle.sql_grammar.specs.Rules as rule;
 ghost use Rattle.sql_words.specs.ReadsAt.{ReadsAs, ReadsAt};
 ghost use Rattle.sql_grammar.specs.Nests.{Nests};
@@ -10,7 +16,7 @@ use crate::paths::path;
 use crate::tails::{cast_end, match_end};
 use query_meaning::{FunctionWord, Mark};
 use query_tree::{Arm, Arms, Expr, Operand};
-use snel_values::{Text, Value};
+use snel_values::{OutOfMemory, Text, Value};
 use sql_forms::{choice, literal};
 use sql_words::{Look, ParseFault, after, expect, function_word, literal_of, token, undoubled};
 use std::alloc::Global;
@@ -32,16 +38,10 @@ impl<F: Fn(Global, usize, &[Look<'_>], usize) -> Result<(Operand, usize), ParseF
                 let number = literal(self.alloc, Value::Int(i128::from(number)))?;
                 Ok((number, at + 1))
             }
-            Some(Look::Str(inner)) => {
-                let text = undoubled(self.alloc, inner, b'\'')?;
-                Ok((literal(self.alloc, Value::Text(text))?, at + 1))
-            }
+            Some(Look::Str(inner)) => Ok((text_literal(self.alloc, inner)?, at + 1)),
             Some(Look::Moment(time)) => Ok((literal(self.alloc, Value::Time(time))?, at + 1)),
             Some(Look::Word(name)) => self.word(name, looks, at + 1),
-            Some(Look::Quoted(inner)) => {
-                let first = undoubled(self.alloc, inner, b'"')?;
-                path(self.alloc, self.room, first, looks, at + 1)
-            }
+            Some(Look::Quoted(inner)) => quoted_path(self.alloc, self.room, inner, looks, at + 1),
             Some(Look::Mark(mark)) => self.marked(mark, looks, at + 1),
             Some(Look::NoToken) | None => Err(ParseFault::NotAQuery),
         }
@@ -187,17 +187,26 @@ impl<F: Fn(Global, usize, &[Look<'_>], usize) -> Result<(Operand, usize), ParseF
         let mut all = Arms::new(self.alloc);
         let mut rest = at;
         for _turn in 0..self.room {
-            let when = expect(looks, rest, Mark::When)?;
-            let (test, next) = self.expr(looks, when)?;
-            let then = expect(looks, next, Mark::Then)?;
-            let (value, behind) = self.expr(looks, then)?;
-            all.push(Arm { test, value })?;
+            let (arm, behind) = self.arm(looks, rest)?;
+            all.push(arm)?;
             let Some(_) = after(looks, behind, Mark::When) else {
                 return Ok((all, behind));
             };
             rest = behind;
         }
         Err(ParseFault::NotAQuery)
+    }
+
+    /// WHEN, a test, THEN and a value.
+    fn arm(&self, looks: &[Look<'_>], at: usize) -> Result<(Arm, usize), ParseFault>
+        requires { Nests self.now.room (F.pre self.now.expr) (F.post self.now.expr) }
+        ensures { ReadsAs arm_view looks.now at result (rule.arm (spec.expr_at self.now.room)) }
+    {
+        let when = expect(looks, at, Mark::When)?;
+        let (test, rest) = self.expr(looks, when)?;
+        let then = expect(looks, rest, Mark::Then)?;
+        let (value, behind) = self.expr(looks, then)?;
+        Ok((Arm { test, value }, behind))
     }
 
     /// ELSE and its value or neither, which stands for NULL, and END.
@@ -218,4 +227,26 @@ impl<F: Fn(Global, usize, &[Look<'_>], usize) -> Result<(Operand, usize), ParseF
             }
         }
     }
+}
+
+/// The literal of a text, which stands between quotes here.
+fn text_literal(alloc: Global, inner: &str) -> Result<Operand, OutOfMemory>
+    ensures { IfOk result (λ e. e ≡ tree.lit (text (undoubled 39 inner.now))) }
+{
+    let text = undoubled(alloc, inner, b'\'')?;
+    literal(alloc, Value::Text(text))
+}
+
+/// The path whose first name stands between quotes here, before the place.
+fn quoted_path(
+    alloc: Global,
+    room: usize,
+    inner: &str,
+    looks: &[Look<'_>],
+    at: usize,
+) -> Result<(Operand, usize), ParseFault>
+    ensures { ReadsAt looks.now at result (path_behind (undoubled 34 inner.now) room) }
+{
+    let first = undoubled(alloc, inner, b'"')?;
+    path(alloc, room, first, looks, at)
 }

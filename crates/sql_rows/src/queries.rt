@@ -14,8 +14,7 @@ pub fn short_query(alloc: Global, query: Query) -> Result<Query, OutOfMemory>
     ensures { let read = query_view query in
         IfOk result (λ q. query_view q ≡ spec.without_row (spec.row_name read) read) }
 {
-    let name = row_name(alloc, &query)?;
-    let parts = short_parts(alloc, name.as_str(), &query)?;
+    let parts = short_parts(alloc, &query)?;
     Ok(Query {
         outputs: parts.outputs,
         source: query.source,
@@ -50,13 +49,21 @@ fn row_name(alloc: Global, query: &Query) -> Result<Text, OutOfMemory>
 }
 
 /// The parts of a query that have expressions, their paths without the row's name.
-fn short_parts(alloc: Global, row: &str, query: &Query) -> Result<Parts, OutOfMemory>
+fn short_parts(alloc: Global, query: &Query) -> Result<Parts, OutOfMemory>
+    ensures { let row = spec.row_name (query_view query.now) in
+        IfOk result (AreShort row query.now) }
+{
+    let name = row_name(alloc, query)?;
+    parts_without(alloc, name.as_str(), query)
+}
+
+/// The parts of a query that have expressions, their paths without this name.
+fn parts_without(alloc: Global, row: &str, query: &Query) -> Result<Parts, OutOfMemory>
     ensures { IfOk result (AreShort row.now query.now) }
 {
     let outputs = short_outputs(alloc, row, &query.outputs)?;
-    let filter = short_option(alloc, row, &query.filter)?;
+    let (filter, having) = short_tests(alloc, row, query)?;
     let keys = short_exprs(alloc, row, &query.keys)?;
-    let having = short_option(alloc, row, &query.having)?;
     let order = short_keys(alloc, row, &query.order)?;
     Ok(Parts {
         outputs,
@@ -65,6 +72,20 @@ fn short_parts(alloc: Global, row: &str, query: &Query) -> Result<Parts, OutOfMe
         having,
         order,
     })
+}
+
+/// WHERE and HAVING of a query, their paths without the row's name.
+fn short_tests(
+    alloc: Global,
+    row: &str,
+    query: &Query,
+) -> Result<(Option<Operand>, Option<Operand>), OutOfMemory>
+    ensures filter { IfOk result (λ t. t.0 ≡ option_map (spec.short row.now) query.now.filter) }
+    ensures having { IfOk result (λ t. t.1 ≡ option_map (spec.short row.now) query.now.having) }
+{
+    let filter = short_option(alloc, row, &query.filter)?;
+    let having = short_option(alloc, row, &query.having)?;
+    Ok((filter, having))
 }
 
 /// The same expression, if there is one, its paths without the row's name.

@@ -9,7 +9,7 @@ use Rattle.tree_meaning.specs.declared.Func.{Func}
 use Rattle.tree_meaning.specs.declared.Part.{Part}
 use Rattle.tree_meaning.specs.declared.AggName.{AggName}
 
--- a step of a path: to the pair of a name, or to the item at a place
+-- a step of a path: to the value of a name, or to the item at a place
 pub data Step : Type 0 where
   name : List ℕ → Step
   at : ℕ → Step
@@ -17,7 +17,7 @@ pub data Step : Type 0 where
 mutual
   pub data Ex : Type 0 where
     lit : Val → Ex
-    -- the number of the row, and the steps from there
+    -- the number of its source, and the steps from there
     path : ℕ → List Step → Ex
     neg : Ex → Ex
     no : Ex → Ex

@@ -30,7 +30,7 @@ IsLiteral (val.text s) = Unit {0}
 IsLiteral (val.list vs) = ⊥
 IsLiteral (val.struct fs) = ⊥
 
--- to the pair of a name, or to the item at a place of 32 bits
+-- to the value of a name, or to the item at a place of 32 bits
 abbrev pub IsStep : Step → Type 0
 IsStep (name n) = IsName n
 IsStep (at i) = i < 2 ^ 32

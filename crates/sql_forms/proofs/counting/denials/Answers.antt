@@ -1,4 +1,4 @@
-use Rattle.std.proofs.Common.{◌≡◌, sym, ap, ◌∙◌, arith}
+use Rattle.std.proofs.Common.{sym, ap, ◌∙◌, arith}
 use Rattle.tree_meaning.specs.Tree.{no}
 use Rattle.query_tree.specs.View.{view}
 use Rattle.sql_forms.proofs.Counts.{one_more, all_counted}
