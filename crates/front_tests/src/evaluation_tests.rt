@@ -2,7 +2,7 @@ use crate::spelling::spell;
 use crate::words::{Words, numbered, plain};
 use eval_row::eval_row;
 use query_tree::{Operand, Outputs, Query};
-use snel_values::{Items, OutOfMemory, Pairs, Text, Value};
+use snel_values::{Items, Pairs, Text, Value};
 use sql_reader::read;
 use std::alloc::Global;
 
@@ -17,77 +17,65 @@ fn first_output(query: &Query) -> Option<&Operand> {
     }
 }
 
-// Adds a pair, where its name stands above the last.
-fn put_above(pairs: &mut Pairs, name: Text, value: Value) -> Result<(), OutOfMemory> {
-    if pairs.is_above_last(name.as_str()) {
-        pairs.push(name, value)
-    } else {
-        drop(value);
-        Ok(())
-    }
-}
-
-// The same of a name's text.
-fn put(alloc: Global, pairs: &mut Pairs, name: &str, value: Value) -> Result<(), OutOfMemory> {
+// Adds a pair, where its name stands above the last; whether it was added.
+fn put(alloc: Global, pairs: &mut Pairs, name: &str, value: Value) -> bool {
     match Text::of(alloc, name) {
         Ok(name) => put_above(pairs, name, value),
-        Err(fault) => {
+        Err(_) => {
             drop(value);
-            Err(fault)
+            false
         }
     }
 }
 
-// `{"a":1,"b":"x"}`
-fn with_both(alloc: Global) -> Result<Value, OutOfMemory> {
-    let mut pairs = Pairs::new(alloc);
-    put(alloc, &mut pairs, "a", Value::Int(1))?;
-    put(alloc, &mut pairs, "b", Value::Text(Text::of(alloc, "x")?))?;
-    Ok(Value::Struct(pairs))
+fn put_above(pairs: &mut Pairs, name: Text, value: Value) -> bool {
+    if pairs.is_above_last(name.as_str()) {
+        pairs.push(name, value).is_ok()
+    } else {
+        drop(value);
+        false
+    }
 }
 
-// A struct of one pair.
-fn with_one(alloc: Global, name: &str, value: Value) -> Result<Value, OutOfMemory> {
-    let mut pairs = Pairs::new(alloc);
-    put(alloc, &mut pairs, name, value)?;
-    Ok(Value::Struct(pairs))
+fn put_text(alloc: Global, pairs: &mut Pairs, name: &str, text: &str) -> bool {
+    match Text::of(alloc, text) {
+        Ok(text) => put(alloc, pairs, name, Value::Text(text)),
+        Err(_) => false,
+    }
 }
 
 // `[1,null]`
-fn list(alloc: Global) -> Result<Value, OutOfMemory> {
+fn list(alloc: Global) -> Value {
     let mut items = Items::new(alloc);
-    items.push(Value::Int(1))?;
-    items.push(Value::Null)?;
-    Ok(Value::List(items))
+    let _whole = items.push(Value::Int(1)).is_ok() && items.push(Value::Null).is_ok();
+    Value::List(items)
 }
 
-// `{"a":[1,null]}`
-fn with_list(alloc: Global) -> Result<Value, OutOfMemory> {
-    with_one(alloc, "a", list(alloc)?)
-}
-
-// The row `{"a":1,"b":"x"}`, `{"a":null}`, `{"b":7}` or `{"a":[1,null]}` by its place, and else NULL.
-fn row(alloc: Global, at: usize) -> Result<Value, OutOfMemory> {
+// Adds the pairs of the row at a place; whether they were added.
+fn put_pairs(alloc: Global, pairs: &mut Pairs, at: usize) -> bool {
     match at {
-        0 => with_both(alloc),
-        1 => with_one(alloc, "a", Value::Null),
-        2 => with_one(alloc, "b", Value::Int(7)),
-        3 => with_list(alloc),
-        _ => Ok(Value::Null),
+        0 => put(alloc, pairs, "a", Value::Int(1)) && put_text(alloc, pairs, "b", "x"),
+        1 => put(alloc, pairs, "a", Value::Null),
+        2 => put(alloc, pairs, "b", Value::Int(7)),
+        3 => put(alloc, pairs, "a", list(alloc)),
+        _ => true,
     }
+}
+
+// The row `{"a":1,"b":"x"}`, `{"a":null}`, `{"b":7}` or `{"a":[1,null]}` by its place, and else `{}`.
+fn row(alloc: Global, at: usize) -> Value {
+    let mut pairs = Pairs::new(alloc);
+    let _whole = put_pairs(alloc, &mut pairs, at);
+    Value::Struct(pairs)
 }
 
 // The value of the first output on the row at a place.
 fn first_value(alloc: Global, query: &Query, at: usize) -> Option<Value> {
     let expr = first_output(query)?;
-    match row(alloc, at) {
-        Ok(row) => {
-            let value = eval_row(alloc, expr, &row, &Value::Missing).ok();
-            drop(row);
-            value
-        }
-        Err(_) => None,
-    }
+    let row = row(alloc, at);
+    let value = eval_row(alloc, expr, &row, &Value::Missing).ok();
+    drop(row);
+    value
 }
 
 // The same of a text's query.

@@ -2,6 +2,8 @@
 //! row of a table, a text beside what stands in README.md or docs/QUERIES.md for it.
 #![tactic(auto)]
 
+ghost use Rattle.front_tests.specs.Examples.{IsListedSo};
+
 #[cfg(test)]
 mod evaluation_tests;
 #[cfg(test)]
@@ -20,3 +22,8 @@ mod spelling;
 mod tree_tests;
 #[cfg(test)]
 mod words;
+
+/// A job with each instruction and each end is listed as it is written beside it.
+pub fn each_line_is_listed_so()
+    ensures { IsListedSo }
+{}

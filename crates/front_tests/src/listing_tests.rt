@@ -1,16 +1,9 @@
-ghost use Rattle.std.specs.Prelude.{◌≡◌, ◌<◌, ℕ, List, [], IfOk, OnOk, All};
-ghost use Rattle.program_meaning.specs.Programs.{mask_count, value_count};
-ghost use Rattle.program_meaning.specs.Jobs.{IsAggregate, AreEnds};
-ghost use Rattle.lane_ssa.specs.Views.{ends_view};
-
 use crate::spelling::spell;
-use lane_ssa::{Builder, EndAgg, EndAggs, EndOut, EndOuts, Ends, Instr, Registers};
 use plan_lower::{is_lowered, listing, lower};
 use query_check::{Checked, check};
-use snel_values::{Bytes, OutOfMemory, Text, Value};
+use snel_values::Bytes;
 use sql_reader::read;
 use std::alloc::Global;
-use tree_meaning::AggName;
 
 // The listing of the job of an accepted query, if it is lowered.
 fn job_listing(alloc: Global, checked: &Checked) -> Option<Bytes> {
@@ -173,121 +166,4 @@ fn is_deep_listed(alloc: Global, end: &str) -> bool {
 fn a_deep_expression_has_its_listing(rt: HostRuntime) {
     let end = "r2001 = not m0 r2000\nm1 = true m0 r2001\nkeep m1\nstar\n";
     assert!(rt; is_deep_listed(rt.alloc(), end));
-}
-
-// Adds three masks and three values.
-fn put_program(builder: &mut Builder) -> Result<(), OutOfMemory>
-    requires { builder.old ≡ [] }
-    ensures masks { OnOk result (mask_count builder.new ≡ 3) }
-    ensures values { OnOk result (value_count builder.new ≡ 3) }
-{
-    let mask = builder.put(Instr::All)?;
-    let a = builder.put(Instr::Root { mask })?;
-    let pick = builder.put(Instr::All)?;
-    let value = Value::Int(-5);
-    let b = builder.put(Instr::Const { mask, value })?;
-    builder.put(Instr::Minus { mask, less: pick })?;
-    builder.put(Instr::Merge { mask, pick, a, b })?;
-    Ok(())
-}
-
-fn outs(alloc: Global) -> Result<EndOuts, OutOfMemory>
-    ensures { IfOk result (λ xs. All (λ (o : List ℕ × ℕ). o.1 < 3) xs) }
-{
-    let mut outs = EndOuts::new(alloc);
-    outs.push(EndOut {
-        name: Text::of(alloc, "a\"b")?,
-        register: 0,
-    })?;
-    Ok(outs)
-}
-
-fn first_value(alloc: Global) -> Result<Registers, OutOfMemory>
-    ensures { IfOk result (λ xs. All (λ (r : ℕ). r < 3) xs) }
-{
-    let mut registers = Registers::new(alloc);
-    registers.push(0)?;
-    Ok(registers)
-}
-
-fn aggs(alloc: Global) -> Result<EndAggs, OutOfMemory>
-    ensures { IfOk result (λ xs. All (IsAggregate 3) xs) }
-{
-    let mut aggs = EndAggs::new(alloc);
-    aggs.push(EndAgg {
-        name: AggName::CountAll,
-        register: None,
-    })?;
-    aggs.push(EndAgg {
-        name: AggName::BoolOr,
-        register: Some(0),
-    })?;
-    Ok(aggs)
-}
-
-fn all_ends(alloc: Global) -> Result<Ends, OutOfMemory>
-    ensures { IfOk result (λ e. AreEnds 3 3 (ends_view e)) }
-{
-    Ok(Ends {
-        keep: 0,
-        star: false,
-        grouped: false,
-        outs: outs(alloc)?,
-        sorts: first_value(alloc)?,
-        groups: first_value(alloc)?,
-        aggs: aggs(alloc)?,
-    })
-}
-
-// The listing of a job with each end.
-fn all_listed(alloc: Global, program: Builder) -> Option<Bytes>
-    requires masks { mask_count program ≡ 3 }
-    requires values { value_count program ≡ 3 }
-{
-    match all_ends(alloc) {
-        Ok(ends) => {
-            let job = program.finish(ends);
-            let made = listing(alloc, &job).ok();
-            drop(job);
-            made
-        }
-        Err(_) => {
-            drop(program);
-            None
-        }
-    }
-}
-
-const ALL_ENDS: &str = "m0 = all
-r0 = root m0
-m1 = all
-r1 = const m0 -5
-m2 = minus m0 m1
-r2 = merge m0 m1 r0 r1
-keep m0
-out \"a\"\"b\" r0
-sort r0
-group r0
-agg countall
-agg boolor r0
-";
-
-fn lists_all_ends(alloc: Global) -> bool {
-    let mut program = Builder::new(alloc);
-    match put_program(&mut program) {
-        Ok(()) => match all_listed(alloc, program) {
-            Some(made) => made.as_slice() == ALL_ENDS.as_bytes(),
-            None => false,
-        },
-        Err(_) => {
-            drop(program);
-            false
-        }
-    }
-}
-
-// Lines that no query has today: a second mask of all rows, a negative number, the rest of a mask, a merge, and each end.
-#[test]
-fn all_ends_are_listed(rt: HostRuntime) {
-    assert!(rt; lists_all_ends(rt.alloc()));
 }

@@ -1,7 +1,5 @@
 use crate::printed::prints;
 use crate::spelling::{Parts, spell};
-use snel_values::{Bytes, OutOfMemory, Value};
-use sql_pieces::{put_literal, put_name, put_string};
 use std::alloc::Global;
 
 // Whether a text is a query, which is printed so and, read again, printed so again.
@@ -21,7 +19,7 @@ fn are_printed(alloc: Global, parts: &Parts<'_>, wanted: &Parts<'_>, times: u32)
 }
 
 // Expressions, and how they are printed in a query over t.
-static EXPRESSIONS: [(&str, &str); 61] = [
+static EXPRESSIONS: [(&str, &str); 63] = [
     ("null", "NULL"),
     ("missing", "MISSING"),
     ("true", "TRUE"),
@@ -94,6 +92,8 @@ static EXPRESSIONS: [(&str, &str); 61] = [
         "case when a then 1 end",
         "(CASE WHEN \"t\".\"a\" THEN 1 ELSE NULL END)",
     ),
+    ("\"a\"\"'\" = 'a\"'''", "(\"t\".\"a\"\"'\" = 'a\"''')"),
+    ("7", "7"),
     ("a - 1 - 2", "((\"t\".\"a\" - 1) - 2)"),
 ];
 
@@ -156,22 +156,4 @@ fn deep_trees_fit_the_stack(rt: HostRuntime) {
     for (parts, wanted) in &CHAINS {
         assert!(rt; are_printed(rt.alloc(), parts, wanted, 2_000));
     }
-}
-
-// Adds a name, a string and a literal.
-fn put_three(text: &mut Bytes) -> Result<(), OutOfMemory> {
-    put_name(text, "a\"'")?;
-    put_string(text, "a\"'")?;
-    put_literal(text, &Value::Int(7))
-}
-
-fn puts_three(alloc: Global, wanted: &str) -> bool {
-    let mut text = Bytes::new(alloc);
-    let whole = put_three(&mut text).is_ok();
-    whole && text.as_slice() == wanted.as_bytes()
-}
-
-#[test]
-fn names_strings_and_literals_are_printed(rt: HostRuntime) {
-    assert!(rt; puts_three(rt.alloc(), "\"a\"\"'\"'a\"'''7"));
 }
