@@ -3,11 +3,10 @@ ghost use Rattle.query_tree.specs.View.{view};
 
 use crate::arms::Arms;
 use crate::lists::Exprs;
-use tree_meaning::AggName;
 use snel_values::{OutOfMemory, Steps, Text, Value};
-use tree_meaning::{BinOp, CastTo, Func, How, IsWhat, Part};
 use std::alloc::Global;
 use std::marker::Model;
+use tree_meaning::{AggName, BinOp, CastTo, Func, How, IsWhat, Part};
 
 /// An expression of a query.
 #[cycle(expr)]
