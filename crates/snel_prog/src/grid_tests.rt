@@ -1,5 +1,5 @@
 use crate::test_calls::ends_on;
-use crate::test_files::{OF_A_AND_B, block_of, file_of};
+use crate::test_files::{OF_A_AND_B, block_of, file_around, file_of};
 use block_file::open_block;
 use eval_row::eval_row;
 use ion_symtab::value_of;
@@ -36,9 +36,31 @@ static ROWS: [&[u8]; 20] = [
     b"\xd4\x8a\x0f\x8b\x0f",
 ];
 
+// A cell of each kind: NULL, truth values, numbers and both ends of their range, texts, times, a list and a struct. The empty
+// one stands for a field that is absent.
+static CELLS: [&[u8]; 16] = [
+    b"",
+    b"\x0f",
+    b"\x11",
+    b"\x10",
+    b"\x20",
+    b"\x21\x01",
+    b"\x31\x02",
+    b"\x28\x7f\xff\xff\xff\xff\xff\xff\xff",
+    b"\x38\x80\x00\x00\x00\x00\x00\x00\x00",
+    b"\x80",
+    b"\x82-7",
+    b"\x84a\xc3\xa9X",
+    b"\x6c\x80\x0f\xe8\x82\x9d\x97\xbb\xbb\xc6\x0f\x42\x3f",
+    b"\x68\x80\x0f\xb1\x8c\x9f\x97\xbb\xbb",
+    b"\xb2\x21\x01",
+    b"\xd3\x8b\x21\x05",
+];
+
 // Each form of one operand.
-static FORMS: [(&str, &str); 8] = [
+static FORMS: [(&str, &str); 9] = [
     ("", ""),
+    ("-", ""),
     ("NOT ", ""),
     ("", " IS NULL"),
     ("", " IS NOT NULL"),
@@ -76,18 +98,121 @@ static NESTED: [&str; 6] = [
     "NOT NOT NOT a",
 ];
 
-// The rows, as a block and as a file.
+// The operators between two operands.
+static OPERATORS: [&str; 13] = [
+    " = ", " <> ", " < ", " <= ", " > ", " >= ", " + ", " - ", " * ", " / ", " % ", " AND ", " OR ",
+];
+
+// Each other form of numbers, choice, texts and times over two operands.
+static OF_TWO: [&str; 53] = [
+    "a IN (b)",
+    "a IN (1, b, NULL)",
+    "a NOT IN (b, 'x', MISSING)",
+    "a BETWEEN b AND 5",
+    "a NOT BETWEEN -2 AND b",
+    "a BETWEEN 'a' AND 'b'",
+    "a BETWEEN a AND b AND b BETWEEN a AND a",
+    "CASE WHEN a THEN b END",
+    "CASE WHEN a THEN 1 WHEN b THEN 2 ELSE a END",
+    "CASE WHEN a = b THEN 'same' WHEN a < b THEN 'below' WHEN a > b THEN 'above' ELSE b END",
+    "CASE WHEN a IS NULL THEN CASE WHEN b THEN a ELSE b END ELSE CASE WHEN a > 0 THEN a + 1 END END",
+    "COALESCE(a)",
+    "COALESCE(a, b)",
+    "COALESCE(b, NULL, a, 7)",
+    "NULLIF(a, b)",
+    "NULLIF(b, 1)",
+    "CAST(a AS INTEGER)",
+    "CAST(a AS BOOLEAN)",
+    "CAST(CAST(a AS BOOLEAN) AS INTEGER)",
+    "- -a",
+    "-(a + b) * 2",
+    "a + b = b + a",
+    "a LIKE '%X'",
+    "a LIKE 'a_X'",
+    "a LIKE ''",
+    "a NOT LIKE '%'",
+    "a ILIKE 'A%x'",
+    "a NOT ILIKE '_é_'",
+    "STARTS_WITH(a, 'a')",
+    "ENDS_WITH(a, '7')",
+    "CONTAINS(a, 'é')",
+    "CONTAINS(a, '')",
+    "CHAR_LENGTH(a)",
+    "CHAR_LENGTH(a) + b",
+    "TO_UNIX_EPOCH(a)",
+    "TO_UNIX_MICRO(a)",
+    "DATE_TRUNC(SECOND, a)",
+    "DATE_TRUNC(MINUTE, a)",
+    "DATE_TRUNC(HOUR, a)",
+    "DATE_TRUNC(DAY, a)",
+    "DATE_TRUNC(WEEK, a)",
+    "DATE_TRUNC(MONTH, a)",
+    "DATE_TRUNC(QUARTER, a)",
+    "DATE_TRUNC(YEAR, a)",
+    "EXTRACT(MICROSECOND FROM a) + EXTRACT(SECOND FROM a)",
+    "EXTRACT(MINUTE FROM a) * 100 + EXTRACT(HOUR FROM a)",
+    "EXTRACT(DAY FROM a) * 100 + EXTRACT(MONTH FROM a)",
+    "EXTRACT(QUARTER FROM a) * 10000 + EXTRACT(YEAR FROM a)",
+    "DATE_ADD(MICROSECOND, b, a)",
+    "DATE_ADD(MINUTE, b, a)",
+    "DATE_ADD(HOUR, b, a)",
+    "DATE_ADD(WEEK, b, a)",
+    "DATE_ADD(DAY, 1, DATE_ADD(SECOND, b, a)) > a",
+];
+
+// Rows, as a block and as a file.
 #[derive(Drop)]
 struct Stored {
+    count: u32,
     block: Vec<u8>,
     file: Vec<u8>,
 }
 
 fn stored_rows(alloc: Global) -> Result<Stored, Fail> {
     Ok(Stored {
+        count: 20,
         block: block_of(alloc, OF_A_AND_B, &ROWS)?,
         file: file_of(alloc, OF_A_AND_B, &ROWS)?,
     })
+}
+
+// The rows with each pair of cells in `a` and `b`.
+fn stored_pairs(alloc: Global) -> Option<Stored> {
+    let mut block = OF_A_AND_B.to_vec(alloc).ok()?;
+    for first in &CELLS {
+        for second in &CELLS {
+            add_row(alloc, &mut block, first, second)?;
+        }
+    }
+    let file = file_around(alloc, block.as_slice(), 256).ok()?;
+    Some(Stored {
+        count: 256,
+        block,
+        file,
+    })
+}
+
+// Adds the pair of a label and a cell, if there is a cell.
+fn add_field(row: &mut Vec<u8>, label: u8, cell: &[u8]) -> Option<()> {
+    if !cell.is_empty() {
+        row.push(label).ok()?;
+        row.extend_from_slice(cell).ok()?;
+    }
+    Some(())
+}
+
+// Adds the row with these cells in `a` and `b`.
+fn add_row(alloc: Global, block: &mut Vec<u8>, first: &[u8], second: &[u8]) -> Option<()> {
+    let mut pairs = Vec::new(alloc);
+    add_field(&mut pairs, 0x8a, first)?;
+    add_field(&mut pairs, 0x8b, second)?;
+    match u8::try_from(pairs.len()).ok()? {
+        0 => block.push(0xd0).ok(),
+        length => {
+            block.extend_from_slice(&[0xde, 0x80 | length]).ok()?;
+            block.extend_from_slice(pairs.as_slice()).ok()
+        }
+    }
 }
 
 #[test]
@@ -133,6 +258,26 @@ fn nested_forms_agree(rt: HostRuntime) -> Result<(), Fail> {
     Ok(())
 }
 
+#[test]
+fn operators_agree_on_each_pair_of_kinds(rt: HostRuntime) {
+    let found = stored_pairs(rt.alloc());
+    assert!(rt; found.is_some());
+    let Some(stored) = found else { return };
+    for op in &OPERATORS {
+        assert!(rt; agrees_on(&rt, &stored, "a", op, "b"), "{op}");
+    }
+}
+
+#[test]
+fn forms_agree_on_each_pair_of_kinds(rt: HostRuntime) {
+    let found = stored_pairs(rt.alloc());
+    assert!(rt; found.is_some());
+    let Some(stored) = found else { return };
+    for expr in &OF_TWO {
+        assert!(rt; agrees_on(&rt, &stored, "", expr, ""), "{expr}");
+    }
+}
+
 // Whether an expression, as an output and in WHERE, is answered as the plain evaluator answers it.
 fn agrees_on<R: Threads + Sync + AllocGlobal>(
     rt: &R,
@@ -163,7 +308,7 @@ fn agrees<R: Threads + Sync + AllocGlobal>(rt: &R, stored: &Stored, sql: &str) -
 fn plain_lines(alloc: Global, stored: &Stored, sql: &str) -> Option<Bytes> {
     match read(alloc, sql) {
         Ok(query) => {
-            let lines = lines_of(alloc, &stored.block, &query);
+            let lines = lines_of(alloc, stored, &query);
             drop(query);
             lines
         }
@@ -171,11 +316,11 @@ fn plain_lines(alloc: Global, stored: &Stored, sql: &str) -> Option<Bytes> {
     }
 }
 
-fn lines_of(alloc: Global, block: &[u8], query: &Query) -> Option<Bytes> {
+fn lines_of(alloc: Global, stored: &Stored, query: &Query) -> Option<Bytes> {
     let Outputs::Named(items) = &query.outputs else {
         return None;
     };
-    let rows = values_in(alloc, block)?;
+    let rows = values_in(alloc, stored)?;
     let mut lines = Bytes::new(alloc);
     for row in rows.as_slice() {
         add_line(alloc, &mut lines, items, &query.filter, row)?;
@@ -184,8 +329,8 @@ fn lines_of(alloc: Global, block: &[u8], query: &Query) -> Option<Bytes> {
 }
 
 // The rows of a block, as values.
-fn values_in(alloc: Global, block: &[u8]) -> Option<Items> {
-    let block = open_block(alloc, block, 20).ok()?;
+fn values_in(alloc: Global, stored: &Stored) -> Option<Items> {
+    let block = open_block(alloc, stored.block.as_slice(), stored.count).ok()?;
     let mut rows = Items::new(alloc);
     for at in 0..block.rows() {
         let row = value_of(alloc, &block.row(at), block.table()).ok()?;

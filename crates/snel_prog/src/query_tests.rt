@@ -3,7 +3,7 @@ use crate::test_files::{OF_A, OF_A_AND_B, file_of};
 use std::test::Fail;
 
 // Queries over the rows {"a":1,"b":"x"}, {"a":null} and {"b":7}, and their lines.
-static ANSWERS: [(&str, &str); 9] = [
+static ANSWERS: [(&str, &str); 13] = [
     ("SELECT a FROM logs", "{\"a\":1}\n{\"a\":null}\n{}\n"),
     ("SELECT * FROM logs WHERE a IS MISSING", "{\"b\":7}\n"),
     (
@@ -25,6 +25,16 @@ static ANSWERS: [(&str, &str); 9] = [
     ("SELECT * FROM logs WHERE FALSE", ""),
     ("SELECT * FROM logs WHERE NULL", ""),
     ("SELECT a FROM logs WHERE a", ""),
+    ("SELECT * FROM logs WHERE NOT (a = 1)", ""),
+    (
+        "SELECT CASE WHEN a = 1 THEN 10 WHEN a IS NOT MISSING THEN 20 END AS c FROM logs",
+        "{\"c\":10}\n{\"c\":20}\n{\"c\":null}\n",
+    ),
+    ("SELECT b + 1 AS d FROM logs", "{}\n{}\n{\"d\":8}\n"),
+    (
+        "SELECT -7 / 2 AS q, -7 % 2 AS r, 1 / 0 AS z FROM logs WHERE a = 1",
+        "{\"q\":-3,\"r\":-1}\n",
+    ),
 ];
 
 #[test]
@@ -60,7 +70,7 @@ static EXPLAINED: [(&[&str], u8, &str, &str); 8] = [
         "snel: query: not a query\n",
     ),
     (
-        &["explain", "SELECT a + 1 FROM logs"],
+        &["explain", "SELECT COUNT(*) FROM logs"],
         3,
         "",
         "snel: query: not built yet\n",
@@ -109,6 +119,72 @@ const NESTED: &[u8] = b"\xdc\x8a\xb7\xb2\x21\x01\xd3\x8a\x21\x02\x8b\x81\x79";
 
 // The row {"a":[1,true,null]}.
 const ITEMS: &[u8] = b"\xd6\x8a\xb4\x21\x01\x11\x0f";
+
+// The row {"a":1,"b":"x"}.
+const ONE_AND_X: &[u8] = b"\xd6\x8a\x21\x01\x8b\x81\x78";
+
+// `a` is the last microsecond of February 2024, the last one before 1970, and the text "aé".
+const LEAP_DAY: &[u8] = b"\xde\x8e\x8a\x6c\x80\x0f\xe8\x82\x9d\x97\xbb\xbb\xc6\x0f\x42\x3f";
+
+const BEFORE_1970: &[u8] = b"\xde\x8e\x8a\x6c\x80\x0f\xb1\x8c\x9f\x97\xbb\xbb\xc6\x0f\x42\x3f";
+
+const ACCENTED: &[u8] = b"\xd5\x8a\x83a\xc3\xa9";
+
+// A row whose names are `a` and `b`, a query over it, and its line.
+static FUNCTIONS: [(&[u8], &str, &str); 8] = [
+    (
+        ONE_AND_X,
+        "SELECT a + 9223372036854775807 AS z, a - 9223372036854775807 AS y FROM logs",
+        "{\"y\":-9223372036854775806}\n",
+    ),
+    (
+        ONE_AND_X,
+        "SELECT CAST('-12' AS INTEGER) AS i, CAST(b AS INTEGER) AS j, CAST(0 AS BOOLEAN) AS t FROM logs",
+        "{\"i\":-12,\"t\":false}\n",
+    ),
+    (
+        ONE_AND_X,
+        "SELECT 'abc' LIKE '%b%' AS p, 'abc' LIKE '%b' AS q, CHAR_LENGTH('aé') AS n, CONTAINS('abc', '') AS c FROM logs",
+        "{\"p\":true,\"q\":false,\"n\":2,\"c\":true}\n",
+    ),
+    (
+        ACCENTED,
+        "SELECT a LIKE 'a_' AS p, a LIKE 'a__' AS q, a ILIKE 'AÉ' AS r FROM logs",
+        "{\"p\":true,\"q\":false,\"r\":false}\n",
+    ),
+    (
+        LEAP_DAY,
+        "SELECT DATE_TRUNC(MONTH, a) AS m FROM logs",
+        "{\"m\":\"2024-02-01T00:00:00Z\"}\n",
+    ),
+    (
+        BEFORE_1970,
+        "SELECT DATE_TRUNC(DAY, a) AS m FROM logs",
+        "{\"m\":\"1969-12-31T00:00:00Z\"}\n",
+    ),
+    (
+        LEAP_DAY,
+        "SELECT DATE_TRUNC(WEEK, a) AS w, TO_UNIX_EPOCH(a) AS e, EXTRACT(MICROSECOND FROM a) AS m, DATE_ADD(DAY, 1, a) AS d FROM logs",
+        "{\"w\":\"2024-02-26T00:00:00Z\",\"e\":1709251199,\"m\":999999,\"d\":\"2024-03-01T23:59:59.999999Z\"}\n",
+    ),
+    (
+        BEFORE_1970,
+        "SELECT TO_UNIX_EPOCH(a) AS e, TO_UNIX_MICRO(a) AS m, EXTRACT(QUARTER FROM a) AS q FROM logs",
+        "{\"e\":-1,\"m\":-1,\"q\":4}\n",
+    ),
+];
+
+#[test]
+fn functions_have_their_values(rt: HostRuntime) -> Result<(), Fail> {
+    for (row, sql, line) in &FUNCTIONS {
+        let bytes = file_of(rt.alloc(), OF_A_AND_B, &[row])?;
+        assert!(rt;
+            ends_on(&rt, sql, &bytes, (0, line.as_bytes(), "")),
+            "{sql}"
+        );
+    }
+    Ok(())
+}
 
 // A table, its row, a query over that row, and its line. Items behind the last are MISSING.
 static PATHS: [(&[u8], &[u8], &str, &str); 5] = [
@@ -174,6 +250,37 @@ static BY_TURNS: [&[u8]; 20] = [
     b"\xd3\x8a\x21\x01",
     b"\xd0",
 ];
+
+// The rows {"k":0} to {"k":16} lie in two chunks.
+const OF_K: &[u8] = b"\xe0\x01\x00\xea\xe7\x81\x83\xd4\x87\xb2\x81\x6b";
+
+static SEVENTEEN: [&[u8]; 17] = [
+    b"\xd2\x8a\x20",
+    b"\xd3\x8a\x21\x01",
+    b"\xd3\x8a\x21\x02",
+    b"\xd3\x8a\x21\x03",
+    b"\xd3\x8a\x21\x04",
+    b"\xd3\x8a\x21\x05",
+    b"\xd3\x8a\x21\x06",
+    b"\xd3\x8a\x21\x07",
+    b"\xd3\x8a\x21\x08",
+    b"\xd3\x8a\x21\x09",
+    b"\xd3\x8a\x21\x0a",
+    b"\xd3\x8a\x21\x0b",
+    b"\xd3\x8a\x21\x0c",
+    b"\xd3\x8a\x21\x0d",
+    b"\xd3\x8a\x21\x0e",
+    b"\xd3\x8a\x21\x0f",
+    b"\xd3\x8a\x21\x10",
+];
+
+#[test]
+fn a_row_of_each_of_two_chunks_passes(rt: HostRuntime) -> Result<(), Fail> {
+    let bytes = file_of(rt.alloc(), OF_K, &SEVENTEEN)?;
+    let sql = "SELECT * FROM logs WHERE k >= 15";
+    assert!(rt; ends_on(&rt, sql, &bytes, (0, b"{\"k\":15}\n{\"k\":16}\n", "")));
+    Ok(())
+}
 
 static TURNS: [(&str, &str); 2] = [
     (

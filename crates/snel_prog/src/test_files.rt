@@ -8,10 +8,15 @@ pub(crate) const OF_A_AND_B: &[u8] = b"\xe0\x01\x00\xea\xe9\x81\x83\xd6\x87\xb4\
 
 /// A block file with one block of this table and these rows.
 pub(crate) fn file_of(alloc: Global, table: &[u8], rows: &[&[u8]]) -> Result<Vec<u8>, AllocError> {
-    let mut bytes = block_of(alloc, table, rows)?;
-    let length = u32::try_from(bytes.len()).unwrap_or(0);
-    let count = u32::try_from(rows.len()).unwrap_or(0);
-    bytes.extend_from_slice(&file_end(length, count))?;
+    let block = block_of(alloc, table, rows)?;
+    file_around(alloc, &block, u32::try_from(rows.len()).unwrap_or(0))
+}
+
+/// A block file of one block with so many rows.
+pub(crate) fn file_around(alloc: Global, block: &[u8], rows: u32) -> Result<Vec<u8>, AllocError> {
+    let mut bytes = block.to_vec(alloc)?;
+    let length = u32::try_from(block.len()).unwrap_or(0);
+    bytes.extend_from_slice(&file_end(length, rows))?;
     Ok(bytes)
 }
 
