@@ -14,9 +14,11 @@ use std::alloc::Global;
 fn row_at<'b>(bytes: &'b [u8], at: u32, last: u32) -> Option<Cell<'b>>
     requires short { length bytes.now < 2 ^ 31 }
     requires within { at ≤ length bytes.now }
-    ensures row { IfSome result (λ c. (table : Table) → HasLast table last → IsRowAt table bytes.now at c) }
+    ensures row { IfSome result (λ c. (table : Table) → HasLast table last
+        → IsRowAt table bytes.now at c) }
     ensures within { IfSome result (λ c. at + length (cell_bytes c) ≤ length bytes.now) }
-    ensures none { IfNone result ((table : Table) → HasLast table last → NoRowAt table bytes.now at) }
+    ensures none { IfNone result ((table : Table) → HasLast table last
+        → NoRowAt table bytes.now at) }
 {
     match cell_at(bytes, at, last) {
         Ok(cell) => match cell.kind() {
@@ -40,8 +42,10 @@ pub(crate) fn rows_at<'b>(
     requires within { start ≤ length bytes.now }
     requires some { 1 ≤ count }
     requires few { count ≤ MOST_BLOCK_ROWS }
-    ensures rows { IfOk result (λ v. (table : Table) → HasLast table last → AreRowsOf table (drop start bytes.now) count v.items) }
-    ensures damaged { IsErrOf result BlockFault.Damaged → (table : Table) → HasLast table last → NoRowsOf table (drop start bytes.now) count }
+    ensures rows { IfOk result (λ v. (table : Table) → HasLast table last
+        → AreRowsOf table (drop start bytes.now) count v.items) }
+    ensures damaged { IsErrOf result BlockFault.Damaged → (table : Table) → HasLast table last
+        → NoRowsOf table (drop start bytes.now) count }
 {
     let Ok(mut cells) = Vec::with_capacity(alloc, count as usize) else {
         return Err(BlockFault::OutOfMemory);

@@ -27,7 +27,8 @@ fn append_lanes<'b>(
 ) -> Result<(), OutOfMemory>
     requires heads { AreHeads frame.now.job.ends.outs heads.now }
     requires ran { HasRunOver block.now.0 (rows_from first block.now.1) frame.now }
-    ensures { OnOk result (into.new ≡ into.old ++ print (job_outputs frame.now.job (rows_from first block.now.1))) }
+    ensures { OnOk result (into.new ≡ into.old
+        ++ print (job_outputs frame.now.job (rows_from first block.now.1))) }
 {
     let kept = frame.kept();
     for lane in 0..16u32 {
@@ -50,10 +51,13 @@ pub(crate) fn append_chunk<'b>(
     requires bound { IsBound block.now.0 frame.old.job.program frame.old.symbols }
     requires within { first < length block.now.1 }
     requires whole { first % 16 ≡ 0 }
-    ensures text { OnOk result (into.new ≡ into.old ++ print (job_outputs frame.old.job (rows_from first block.now.1))) }
-    ensures lines { IfOk result (λ n. n ≡ length (filter (keeps frame.old.job) (rows_from first block.now.1))) }
+    ensures text { OnOk result (into.new ≡ into.old
+        ++ print (job_outputs frame.old.job (rows_from first block.now.1))) }
+    ensures lines { IfOk result (λ n. n
+        ≡ length (filter (keeps frame.old.job) (rows_from first block.now.1))) }
     ensures chunks { frame.new.chunks ≡ counted frame.old.chunks 1 }
-    ensures kept { frame.new.kept ≡ counted frame.old.kept (length (filter (keeps frame.old.job) (rows_from first block.now.1))) }
+    ensures kept { frame.new.kept ≡ counted frame.old.kept
+        (length (filter (keeps frame.old.job) (rows_from first block.now.1))) }
     ensures job { frame.new.job ≡ frame.old.job }
     ensures symbols { frame.new.symbols ≡ frame.old.symbols }
 {

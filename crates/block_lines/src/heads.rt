@@ -99,7 +99,8 @@ impl LineHeads {
 
     /// What stands before the value of the output at a place, counted from 0, where a pair stands before it or doesn't.
     pub(crate) fn get(&self, at: usize, later: bool) -> Option<&[u8]>
-        ensures { option_copied result ≡ slice_get (cond later self.now.following self.now.opening) at }
+        ensures { option_copied result ≡ slice_get
+            (cond later self.now.following self.now.opening) at }
     {
         if later {
             self.following.get(at)

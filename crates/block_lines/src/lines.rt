@@ -31,8 +31,10 @@ fn append_output(
     look: Look<'_>,
 ) -> Result<bool, OutOfMemory>
     requires { IsLegal table.now (seen look) }
-    ensures text { OnOk result (into.new ≡ into.old ++ value_behind head.now (value_under table.now (seen look.entry))) }
-    ensures later { IfOk result (λ some. some ≡ (later || not (is_missing (value_under table.now (seen look.entry))))) }
+    ensures text { OnOk result (into.new ≡ into.old
+        ++ value_behind head.now (value_under table.now (seen look.entry))) }
+    ensures later { IfOk result (λ some. some
+        ≡ (later || not (is_missing (value_under table.now (seen look.entry))))) }
 {
     if let Look::Missing = look {
         return Ok(later);
@@ -54,7 +56,8 @@ fn append_outputs<'b>(
     requires heads { AreHeads frame.now.job.ends.outs heads.now }
     requires legal { All (AreLegal table.now) frame.now.values }
     requires values { length frame.now.values ≡ value_count frame.now.job.program }
-    ensures { OnOk result (into.new ≡ into.old ++ line_text (shown_pairs (state_at table.now frame.now lane) frame.now.job.ends.outs)) }
+    ensures { OnOk result (into.new ≡ into.old
+        ++ line_text (shown_pairs (state_at table.now frame.now lane) frame.now.job.ends.outs)) }
 {
     let outs = &frame.job().ends().outs;
     let mut later = false;
@@ -88,7 +91,8 @@ pub(crate) fn append_line<'b>(
     requires heads { AreHeads frame.now.job.ends.outs heads.now }
     requires within { first + lane < length block.now.1 }
     requires ran { HasRunOver block.now.0 (rows_from first block.now.1) frame.now }
-    ensures { (row : Val) → slice_get (rows_from first block.now.1) lane ≡ Some row → OnOk result (into.new ≡ into.old ++ line_text (job_output frame.now.job row)) }
+    ensures { (row : Val) → slice_get (rows_from first block.now.1) lane ≡ Some row
+        → OnOk result (into.new ≡ into.old ++ line_text (job_output frame.now.job row)) }
 {
     block.know();
     if frame.job().ends().star {

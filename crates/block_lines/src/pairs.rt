@@ -15,7 +15,8 @@ use snel_values::{Bytes, OutOfMemory};
 /// it may be added.
 pub fn append_look(into: &mut Bytes, table: &SymTab<'_>, look: Look<'_>) -> Result<(), OutOfMemory>
     requires { IsLegal table.now (seen look) }
-    ensures { OnOk result (into.new ≡ into.old ++ value_text (value_under table.now (seen look.entry))) }
+    ensures { OnOk result (into.new ≡ into.old
+        ++ value_text (value_under table.now (seen look.entry))) }
 {
     match look {
         Look::Missing => Ok(()),

@@ -28,7 +28,8 @@ const TABLE: &[u8] = &[
 
 /// Adds an instruction that makes a value.
 fn value(builder: &mut Builder, instr: Instr) -> Result<(), OutOfMemory>
-    requires names { IsInstruction (mask_count builder.old) (value_count builder.old) (instr_view instr) }
+    requires names { IsInstruction (mask_count builder.old) (value_count builder.old)
+        (instr_view instr) }
     requires kernel { has_kernel (instr_view instr) ≡ true }
     requires makes { makes_mask (instr_view instr) ≡ false }
     ensures masks { IfOk result (λ _. mask_count builder.new ≡ mask_count builder.old) }
@@ -40,7 +41,8 @@ fn value(builder: &mut Builder, instr: Instr) -> Result<(), OutOfMemory>
 
 /// Adds an instruction that makes a mask.
 fn mask(builder: &mut Builder, instr: Instr) -> Result<(), OutOfMemory>
-    requires names { IsInstruction (mask_count builder.old) (value_count builder.old) (instr_view instr) }
+    requires names { IsInstruction (mask_count builder.old) (value_count builder.old)
+        (instr_view instr) }
     requires kernel { has_kernel (instr_view instr) ≡ true }
     requires makes { makes_mask (instr_view instr) ≡ true }
     ensures masks { IfOk result (λ _. mask_count builder.new ≡ mask_count builder.old + 1) }
@@ -94,7 +96,8 @@ fn fields(alloc: Global) -> Result<Builder, OutOfMemory>
 
 /// A literal.
 fn literal(builder: &mut Builder, constant: Value) -> Result<(), OutOfMemory>
-    requires names { IsInstruction (mask_count builder.old) (value_count builder.old) (instr_view (Instr.Const 0 constant)) }
+    requires names { IsInstruction (mask_count builder.old) (value_count builder.old)
+        (instr_view (Instr.Const 0 constant)) }
     ensures masks { IfOk result (λ _. mask_count builder.new ≡ mask_count builder.old) }
     ensures values { IfOk result (λ _. value_count builder.new ≡ value_count builder.old + 1) }
 {

@@ -25,9 +25,11 @@ use std::alloc::Global;
 /// Puts the bytes and drops them, where they are at least so many.
 fn put_from<O: Out>(lines: &mut Bytes, least: usize, out: &mut O) -> Result<(), Failed>
     requires { 1 ≤ least }
-    ensures taken { OnOk result (IsUnderway (O.holds out.old) (O.holds out.new) lines.new [] lines.old) }
+    ensures taken { OnOk result (IsUnderway (O.holds out.old)
+        (O.holds out.new) lines.new [] lines.old) }
     ensures few { OnOk result (length lines.new < least) }
-    ensures cut { OnErr result ((n : ℕ) × Appends (O.holds out.old) (O.holds out.new) (take n lines.old)) }
+    ensures cut { OnErr result ((n : ℕ)
+        × Appends (O.holds out.old) (O.holds out.new) (take n lines.old)) }
     ensures fault { HasCause (O.faults out.old) (O.faults out.new) (IsErr result) }
 {
     if lines.len() < least {
@@ -53,13 +55,17 @@ pub fn write_lines<'b, O: Out>(
     out: &mut O,
 ) -> Result<u64, LinesFault>
     ensures written { (q : Query) → Simulates frame.old.job q → is_grouped q ≡ false
-        → Writes result (O.holds out.old) (O.holds out.new) (print (map (output_of q.outs) (passed q block.now.1))) }
-    ensures lines { (q : Query) → Simulates frame.old.job q → IfOk result (λ n. n ≡ length (passed q block.now.1)) }
-    ensures chunks { OnOk result (frame.new.chunks ≡ counted frame.old.chunks ((length block.now.1 + 15) / 16)) }
+        → Writes result (O.holds out.old) (O.holds out.new)
+        (print (map (output_of q.outs) (passed q block.now.1))) }
+    ensures lines { (q : Query) → Simulates frame.old.job q
+        → IfOk result (λ n. n ≡ length (passed q block.now.1)) }
+    ensures chunks { OnOk result (frame.new.chunks
+        ≡ counted frame.old.chunks ((length block.now.1 + 15) / 16)) }
     ensures kept { (q : Query) → Simulates frame.old.job q
         → OnOk result (frame.new.kept ≡ counted frame.old.kept (length (passed q block.now.1))) }
     ensures job { frame.new.job ≡ frame.old.job }
-    ensures fault { HasCause (O.faults out.old) (O.faults out.new) (IsErrOf result LinesFault.WriteFault) }
+    ensures fault { HasCause (O.faults out.old) (O.faults out.new)
+        (IsErrOf result LinesFault.WriteFault) }
 {
     let Ok(heads) = LineHeads::of(alloc, &frame.job().ends().outs) else {
         return Err(LinesFault::OutOfMemory);

@@ -96,7 +96,8 @@ impl<'b> Cell<'b> {
     #[tactic(auto, unfolding(crate::specs::Shown::cell_bytes))]
     pub fn bytes(&self) -> &'b [u8]
         ensures bytes { result.now ≡ cell_bytes self.now }
-        ensures cell { (table : Table) → Fits table self.now → IsCell table 0 (shown table self.now) result.now }
+        ensures cell { (table : Table) → Fits table self.now
+            → IsCell table 0 (shown table self.now) result.now }
     {
         self.bytes
     }
@@ -104,7 +105,8 @@ impl<'b> Cell<'b> {
     /// What kind of value the cell denotes.
     #[inline(always)]
     pub fn kind(&self) -> Kind
-        ensures { (table : Table) → Fits table self.now → result ≡ kind_of (is_symbol_cell self.now) (shown table self.now) }
+        ensures { (table : Table) → Fits table self.now
+            → result ≡ kind_of (is_symbol_cell self.now) (shown table self.now) }
     {
         self.tag.kind()
     }
@@ -121,8 +123,10 @@ impl<'b> Cell<'b> {
     /// What the cell denotes, with its kind.
     #[inline(always)]
     pub fn content(&self) -> Content<'b>
-        ensures value { (table : Table) → Fits table self.now → content_value table result ≡ shown table self.now }
-        ensures symbol { symbol_in result ≡ option_map magnitude (only_payload 7 (cell_bytes self.now)) }
+        ensures value { (table : Table) → Fits table self.now
+            → content_value table result ≡ shown table self.now }
+        ensures symbol { symbol_in result
+            ≡ option_map magnitude (only_payload 7 (cell_bytes self.now)) }
         ensures within { IsWithin (cell_last self.now) result }
     {
         let last = self.last;
@@ -169,7 +173,8 @@ impl<'b> Cell<'b> {
     /// The time, in microseconds from 1970-01-01T00:00:00Z on. It lies from the year 1 to the year 9999.
     #[inline(always)]
     pub fn micros(&self) -> Option<i64>
-        ensures time { (table : Table) → Fits table self.now → result ≡ time_of (shown table self.now) }
+        ensures time { (table : Table) → Fits table self.now
+            → result ≡ time_of (shown table self.now) }
         ensures range { IfSome result IsTime }
     {
         match self.content() {
@@ -182,7 +187,8 @@ impl<'b> Cell<'b> {
     #[inline(always)]
     pub fn text(&self) -> Option<&'b str>
         ensures { (table : Table) → Fits table self.now
-            → option_map (λ s. s.now) result ≡ (if is_symbol_cell self.now then None else text_in (shown table self.now)) }
+            → option_map (λ s. s.now) result
+            ≡ (if is_symbol_cell self.now then None else text_in (shown table self.now)) }
     {
         match self.content() {
             Content::Text(text) => Some(text),
@@ -195,7 +201,8 @@ impl<'b> Cell<'b> {
     pub fn symbol(&self) -> Option<u32>
         ensures number { result ≡ option_map magnitude (only_payload 7 (cell_bytes self.now)) }
         ensures range { IfSome result (λ n. (10 ≤ n) × (n ≤ cell_last self.now)) }
-        ensures text { IfSome result (λ n. (table : Table) → Fits table self.now → text_of table n ≡ text_in (shown table self.now)) }
+        ensures text { IfSome result (λ n. (table : Table) → Fits table self.now
+            → text_of table n ≡ text_in (shown table self.now)) }
     {
         match self.content() {
             Content::Symbol(number) => Some(number),
@@ -206,7 +213,8 @@ impl<'b> Cell<'b> {
     /// The cells of the list, in order.
     #[inline(always)]
     pub fn items(&self) -> Option<Cells<'b>>
-        ensures values { (table : Table) → Fits table self.now → option_map (values_left table) result ≡ items_in (shown table self.now) }
+        ensures values { (table : Table) → Fits table self.now
+            → option_map (values_left table) result ≡ items_in (shown table self.now) }
         ensures last { IfSome result (λ s. items_last s ≡ cell_last self.now) }
     {
         match self.content() {
@@ -218,7 +226,8 @@ impl<'b> Cell<'b> {
     /// The pairs of the struct, a label and a cell each, in order. The text of a label is its text in the symbol table.
     #[inline(always)]
     pub fn fields(&self) -> Option<Fields<'b>>
-        ensures pairs { (table : Table) → Fits table self.now → option_map (pairs_left table) result ≡ pairs_in (shown table self.now) }
+        ensures pairs { (table : Table) → Fits table self.now
+            → option_map (pairs_left table) result ≡ pairs_in (shown table self.now) }
         ensures last { IfSome result (λ s. fields_last s ≡ cell_last self.now) }
     {
         match self.content() {

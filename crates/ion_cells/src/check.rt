@@ -14,7 +14,8 @@ use crate::types::{LIST, STRUCT};
 #[cycle(check)]
 pub(crate) fn check_to(bytes: &[u8], at: usize, last: u32, room: u8) -> Option<usize>
     requires { at ≤ length bytes.now }
-    ensures end { option_map (λ e. drop e bytes.now) result ≡ option_map (λ x. x.1) (cell_to (blank_table last) room (drop at bytes.now)) }
+    ensures end { option_map (λ e. drop e bytes.now) result
+        ≡ option_map (λ x. x.1) (cell_to (blank_table last) room (drop at bytes.now)) }
     ensures within { IfSome result (λ e. (at < e) × (e ≤ length bytes.now)) }
 {
     if at >= bytes.len() {
@@ -54,7 +55,8 @@ fn is_payload(kind: u8, payload: &[u8], last: u32, room: u8) -> bool
 #[inline(never)]
 #[cycle(check)]
 fn are_cells(bytes: &[u8], last: u32, room: u8) -> bool
-    ensures { result ≡ is_some (cells_by (cell_to (blank_table last) room) (length bytes.now) bytes.now) }
+    ensures { result ≡ is_some (cells_by (cell_to (blank_table last) room) (length bytes.now)
+        bytes.now) }
 {
     let mut at = 0;
     while at < bytes.len() {
@@ -70,7 +72,8 @@ fn are_cells(bytes: &[u8], last: u32, room: u8) -> bool
 #[inline(never)]
 #[cycle(check)]
 fn are_pairs(bytes: &[u8], last: u32, room: u8) -> bool
-    ensures { result ≡ is_some (pairs_by (cell_to (blank_table last) room) (blank_table last) 10 (length bytes.now) bytes.now) }
+    ensures { result ≡ is_some (pairs_by (cell_to (blank_table last) room) (blank_table last) 10
+        (length bytes.now) bytes.now) }
 {
     let mut at = 0;
     let mut low = 10;
@@ -92,7 +95,8 @@ fn are_pairs(bytes: &[u8], last: u32, room: u8) -> bool
 #[tactic(auto, unfolding(crate::specs::Steps::pair_by))]
 fn check_pair(bytes: &[u8], at: usize, low: u32, last: u32, room: u8) -> Option<(u32, usize)>
     requires { at ≤ length bytes.now }
-    ensures end { option_map (λ p. (p.0, drop p.1 bytes.now)) result ≡ pair_by (cell_to (blank_table last) room) (blank_table last) low (drop at bytes.now) }
+    ensures end { option_map (λ p. (p.0, drop p.1 bytes.now)) result
+        ≡ pair_by (cell_to (blank_table last) room) (blank_table last) low (drop at bytes.now) }
     ensures within { IfSome result (λ p. (at < p.1) × (p.1 ≤ length bytes.now) × (p.0 < 2 ^ 28)) }
 {
     let (label, start) = var_uint(bytes, at)?;

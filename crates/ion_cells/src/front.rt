@@ -30,7 +30,8 @@ fn is_short(first: u8) -> bool
 #[inline(always)]
 #[tactic(auto, unfolding(crate::specs::Tags::opening))]
 pub(crate) fn read_front(bytes: &[u8]) -> Option<Front>
-    ensures opens { option_map (λ f. (f.tag, f.end - f.start, drop f.start bytes.now)) result ≡ opening bytes.now }
+    ensures opens { option_map (λ f. (f.tag, f.end - f.start, drop f.start bytes.now)) result
+        ≡ opening bytes.now }
     ensures within { IfSome result (λ f. (f.start ≤ f.end) × (f.end ≤ length bytes.now)) }
 {
     if bytes.is_empty() {

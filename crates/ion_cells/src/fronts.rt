@@ -15,7 +15,8 @@ pub(crate) fn first_item(bytes: &[u8], last: u32) -> Option<(Cell<'_>, &[u8])>
     requires { are_items last bytes.now ≡ true }
     ensures item { IfSome result (λ p. (cell_last p.0 ≡ last) × (are_items last p.1.now ≡ true)) }
     ensures values { (table : Table) → HasLast table last
-        → MatchOption result (values_of table bytes.now ≡ []) (λ p. values_of table bytes.now ≡ shown table p.0 ∷ values_of table p.1.now) }
+        → MatchOption result (values_of table bytes.now ≡ []) (λ p. values_of table bytes.now
+        ≡ shown table p.0 ∷ values_of table p.1.now) }
 {
     let front = read_front(bytes)?;
     let (first, others) = bytes.split_at(front.end);
@@ -28,9 +29,11 @@ pub(crate) fn first_item(bytes: &[u8], last: u32) -> Option<(Cell<'_>, &[u8])>
 pub(crate) fn first_field(bytes: &[u8], last: u32, low: u32) -> Option<(u32, Cell<'_>, &[u8])>
     requires { are_fields last low bytes.now ≡ true }
     ensures label { IfSome result (λ p. (low ≤ p.0) × (10 ≤ p.0) × (p.0 ≤ last) × (p.0 < 2 ^ 28)) }
-    ensures item { IfSome result (λ p. (cell_last p.1 ≡ last) × (are_fields last (p.0 + 1) p.2.now ≡ true)) }
+    ensures item { IfSome result (λ p. (cell_last p.1 ≡ last)
+        × (are_fields last (p.0 + 1) p.2.now ≡ true)) }
     ensures pairs { (table : Table) → HasLast table last
-        → MatchOption result (pairs_of table low bytes.now ≡ []) (λ p. pairs_of table low bytes.now ≡ named table p.0 (shown table p.1) ∷ pairs_of table (p.0 + 1) p.2.now) }
+        → MatchOption result (pairs_of table low bytes.now ≡ []) (λ p. pairs_of table low bytes.now
+        ≡ named table p.0 (shown table p.1) ∷ pairs_of table (p.0 + 1) p.2.now) }
 {
     let (label, start) = var_uint(bytes, 0)?;
     let behind = &bytes[start..];

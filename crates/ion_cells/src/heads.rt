@@ -22,8 +22,10 @@ pub struct CellHead {
 #[tactic(auto, unfolding(block_meaning::specs::CellReading::counted))]
 fn counted(bytes: &[u8], at: usize, kind: u8, least: u32) -> Option<CellHead>
     requires { at ≤ length bytes.now }
-    ensures head { option_map (λ h. (h.kind, h.count, drop h.start bytes.now)) result ≡ counted kind least (drop at bytes.now) }
-    ensures within { IfSome result (λ h. (at < h.start) × (h.start + h.count ≤ length bytes.now) × (h.start ≤ at + 4)) }
+    ensures head { option_map (λ h. (h.kind, h.count, drop h.start bytes.now)) result
+        ≡ counted kind least (drop at bytes.now) }
+    ensures within { IfSome result (λ h. (at < h.start) × (h.start + h.count ≤ length bytes.now)
+        × (h.start ≤ at + 4)) }
 {
     let (count, start) = var_uint(bytes, at)?;
     if count < least || bytes.len() - start < count as usize {
@@ -43,8 +45,10 @@ fn counted(bytes: &[u8], at: usize, kind: u8, least: u32) -> Option<CellHead>
 #[tactic(auto, unfolding(block_meaning::specs::CellReading::head_at))]
 pub fn head(bytes: &[u8], at: usize) -> Option<CellHead>
     requires { at ≤ length bytes.now }
-    ensures head { option_map (λ h. (h.kind, h.count, drop h.start bytes.now)) result ≡ head_at (drop at bytes.now) }
-    ensures within { IfSome result (λ h. (at < h.start) × (h.start + h.count ≤ length bytes.now) × (h.start ≤ at + 5)) }
+    ensures head { option_map (λ h. (h.kind, h.count, drop h.start bytes.now)) result
+        ≡ head_at (drop at bytes.now) }
+    ensures within { IfSome result (λ h. (at < h.start) × (h.start + h.count ≤ length bytes.now)
+        × (h.start ≤ at + 5)) }
 {
     if at >= bytes.len() {
         return None;

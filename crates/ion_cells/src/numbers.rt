@@ -7,8 +7,10 @@ ghost use Rattle.block_meaning.specs.Numbers as spec;
 #[inline(always)]
 pub fn var_uint(bytes: &[u8], at: usize) -> Option<(u32, usize)>
     requires { at ≤ length bytes.now }
-    ensures number { option_map (λ x. (x.0, drop x.1 bytes.now)) result ≡ spec.var_uint (drop at bytes.now) }
-    ensures within { IfSome result (λ x. (at < x.1) × (x.1 ≤ length bytes.now) × (x.0 < 2 ^ 28) × (x.1 ≤ at + 4)) }
+    ensures number { option_map (λ x. (x.0, drop x.1 bytes.now)) result
+        ≡ spec.var_uint (drop at bytes.now) }
+    ensures within { IfSome result (λ x. (at < x.1) × (x.1 ≤ length bytes.now) × (x.0 < 2 ^ 28)
+        × (x.1 ≤ at + 4)) }
 {
     let mut number = 0u32;
     for i in 0..4usize {
@@ -41,7 +43,8 @@ pub fn magnitude(bytes: &[u8]) -> u64
 fn next_in(bytes: &[u8], room: usize, so_far: u32) -> Option<(u32, &[u8])>
     requires short { room ≤ 4 }
     requires small { so_far < 128 ^ (4 - room) }
-    ensures number { option_map (λ x. (x.0, x.1.now)) result ≡ spec.var_uint_in room so_far bytes.now }
+    ensures number { option_map (λ x. (x.0, x.1.now)) result
+        ≡ spec.var_uint_in room so_far bytes.now }
     ensures small { IfSome result (λ x. x.0 < 2 ^ 28) }
 {
     if room == 0 || bytes.is_empty() {

@@ -23,7 +23,8 @@ pub fn check_cell(bytes: &[u8], at: u32, last_symbol: u32, depth: u8) -> Result<
     ensures bad { OnErr result (StandsNowhere last_symbol depth bytes.now at) }
 
     // The same, as reading from left to right answers it.
-    ensures read { MatchResult result (λ e. Reads last_symbol depth bytes.now at (Some (drop e bytes.now)))
+    ensures read { MatchResult result
+        (λ e. Reads last_symbol depth bytes.now at (Some (drop e bytes.now)))
         (λ _. Reads last_symbol depth bytes.now at None) }
 {
     match check_to(bytes, at as usize, last_symbol, 128u8.saturating_sub(depth)) {
@@ -39,11 +40,14 @@ pub fn cell_at<'b>(bytes: &'b [u8], at: u32, last_symbol: u32) -> Result<Cell<'b
     requires short { length bytes.now < 2 ^ 31 }
     requires within { at ≤ length bytes.now }
     ensures last { IfOk result (λ c. cell_last c ≡ last_symbol) }
-    ensures stands { IfOk result (λ c. (cell_bytes c ≡ take (length (cell_bytes c)) (drop at bytes.now))
+    ensures stands { IfOk result (λ c. (cell_bytes c
+        ≡ take (length (cell_bytes c)) (drop at bytes.now))
         × (at + length (cell_bytes c) ≤ length bytes.now)) }
     ensures read { IfOk result (λ c. (table : Table) → HasLast table last_symbol
-        → cell_to table 128 (drop at bytes.now) ≡ shown_before table c (drop (at + length (cell_bytes c)) bytes.now)) }
-    ensures shows { IfOk result (λ c. (table : Table) → HasLast table last_symbol → IsCell table 0 (shown table c) (cell_bytes c)) }
+        → cell_to table 128 (drop at bytes.now)
+        ≡ shown_before table c (drop (at + length (cell_bytes c)) bytes.now)) }
+    ensures shows { IfOk result (λ c. (table : Table) → HasLast table last_symbol
+        → IsCell table 0 (shown table c) (cell_bytes c)) }
     ensures bad { OnErr result (StandsNowhere last_symbol 0 bytes.now at) }
 {
     match check_to(bytes, at as usize, last_symbol, 128) {

@@ -22,7 +22,8 @@ fn is_rising(before: Option<&str>, text: &str) -> bool
 
 /// The bytes as a text, where they are UTF-8.
 fn as_text(bytes: &[u8]) -> Option<&str>
-    ensures { option_map (λ s. s.now) result ≡ (if is_utf8 bytes.now then Some bytes.now else None) }
+    ensures { option_map (λ s. s.now) result
+        ≡ (if is_utf8 bytes.now then Some bytes.now else None) }
 {
     match basic::from_utf8(bytes) {
         Ok(text) => Some(text),
@@ -34,7 +35,8 @@ fn as_text(bytes: &[u8]) -> Option<&str>
 #[tactic(auto, unfolding(block_meaning::specs::Blocks::payload_of))]
 fn text_bytes(bytes: &[u8], at: usize) -> Option<(&[u8], usize)>
     requires { at ≤ length bytes.now }
-    ensures bytes { option_map (λ p. (p.0.now, drop p.1 bytes.now)) result ≡ payload_of 8 (drop at bytes.now) }
+    ensures bytes { option_map (λ p. (p.0.now, drop p.1 bytes.now)) result
+        ≡ payload_of 8 (drop at bytes.now) }
     ensures within { IfSome result (λ p. (at < p.1) × (p.1 ≤ length bytes.now)) }
 {
     let head = head(bytes, at)?;
@@ -51,7 +53,8 @@ fn text_bytes(bytes: &[u8], at: usize) -> Option<(&[u8], usize)>
 #[tactic(auto, unfolding(crate::specs::TextCells::text_by))]
 fn text_at<'b>(bytes: &'b [u8], at: usize, before: Option<&str>) -> Option<(&'b str, usize)>
     requires { at ≤ length bytes.now }
-    ensures text { option_map (λ p. (p.0.now, drop p.1 bytes.now)) result ≡ text_by (option_map (λ s. s.now) before.entry) (drop at bytes.now) }
+    ensures text { option_map (λ p. (p.0.now, drop p.1 bytes.now)) result
+        ≡ text_by (option_map (λ s. s.now) before.entry) (drop at bytes.now) }
     ensures within { IfSome result (λ p. (at < p.1) × (p.1 ≤ length bytes.now)) }
 {
     let (payload, end) = text_bytes(bytes, at)?;
@@ -65,8 +68,10 @@ fn text_at<'b>(bytes: &'b [u8], at: usize, before: Option<&str>) -> Option<(&'b 
 
 /// The texts of the string cells that the bytes are, end to end. Each text is above the one before.
 pub(crate) fn texts_of<'b>(alloc: Global, cells: &'b [u8]) -> Result<Vec<&'b str>, TabFault>
-    ensures texts { IfOk result (λ v. texts_by None (length cells.now) cells.now ≡ Some (map (λ s. s.now) v.items)) }
-    ensures bad { IsErrOf result TabFault.BadTable → texts_by None (length cells.now) cells.now ≡ None }
+    ensures texts { IfOk result (λ v. texts_by None (length cells.now) cells.now
+        ≡ Some (map (λ s. s.now) v.items)) }
+    ensures bad { IsErrOf result TabFault.BadTable
+        → texts_by None (length cells.now) cells.now ≡ None }
 {
     let mut texts = Vec::new(alloc);
     let mut before: Option<&'b str> = None;

@@ -45,7 +45,8 @@ fn all_have_texts(items: &Items) -> bool
 /// The same of the values of all pairs.
 #[cycle(has_text)]
 fn all_pairs_have_texts(pairs: &Pairs) -> bool
-    ensures { IsTrue result ↔ PairsHaveTimesInRange (fields pairs.now) × PairsHaveNoMissing (fields pairs.now) }
+    ensures { IsTrue result ↔ PairsHaveTimesInRange (fields pairs.now)
+        × PairsHaveNoMissing (fields pairs.now) }
 {
     for at in 0..pairs.len() {
         let (_, value) = pair_at(pairs, at);

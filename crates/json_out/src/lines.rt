@@ -15,7 +15,8 @@ use std::alloc::Global;
 pub fn append_row(into: &mut Bytes, table: &SymTab<'_>, row: &Cell<'_>) -> Result<(), OutOfMemory>
     requires fits { Fits table.now row.now }
     requires is_struct { is_struct (shown table.now row.now) ≡ true }
-    ensures ok { OnOk result (into.new ≡ into.old ++ line_text (pairs_of (shown table.now row.now))) }
+    ensures ok { OnOk result (into.new ≡ into.old
+        ++ line_text (pairs_of (shown table.now row.now))) }
     ensures err { OnErr result (into.new ≡ []) }
 {
     match put_row(into, table, row) {

@@ -50,7 +50,8 @@ fn put_cell_pair(
     cell: &Cell<'_>,
 ) -> Result<(), OutOfMemory>
     requires { Fits table.now cell.now }
-    ensures { OnOk result (line.new ≡ line.old ++ pair_text line.old name.now (value_text (shown table.now cell.now))) }
+    ensures { OnOk result (line.new ≡ line.old
+        ++ pair_text line.old name.now (value_text (shown table.now cell.now))) }
 {
     begin_pair(line, name)?;
     put_value(line, table, cell)
@@ -60,7 +61,8 @@ fn put_cell_pair(
 fn put_value_pair(line: &mut Bytes, name: &str, value: &Value) -> Result<(), OutOfMemory>
     requires times { HasTimesInRange (view value.now) }
     requires no_missing { HasNoMissing (view value.now) }
-    ensures { OnOk result (line.new ≡ line.old ++ pair_text line.old name.now (value_text (view value.now))) }
+    ensures { OnOk result (line.new ≡ line.old
+        ++ pair_text line.old name.now (value_text (view value.now))) }
 {
     begin_pair(line, name)?;
     put_owned(line, value)
@@ -84,8 +86,10 @@ impl LineMaker {
         cell: &Cell<'_>,
     ) -> Result<(), OutOfMemory>
         requires { Fits table.now cell.now }
-        ensures ok { OnOk result (self.new ≡ self.old ++ pair_text self.old name.now (value_text (shown table.now cell.now))) }
-        ensures pairs { (output : Output) → self.old ≡ begun output → OnOk result (self.new ≡ begun (output ++ (name.now, shown table.now cell.now) ∷ [])) }
+        ensures ok { OnOk result (self.new ≡ self.old
+            ++ pair_text self.old name.now (value_text (shown table.now cell.now))) }
+        ensures pairs { (output : Output) → self.old ≡ begun output
+            → OnOk result (self.new ≡ begun (output ++ (name.now, shown table.now cell.now) ∷ [])) }
         ensures err { OnErr result (self.new ≡ []) }
     {
         match put_cell_pair(&mut self.line, name, table, cell) {
@@ -100,7 +104,8 @@ impl LineMaker {
     /// Whether `put_value` takes the value: each time in it lies from the year 1 to the year 9999, and MISSING stands at
     /// most at its top.
     pub fn takes(value: &Value) -> bool
-        ensures { IsTrue result ↔ HasTimesInRange (view value.now) × IsMissingAtMostAtTop (view value.now) }
+        ensures { IsTrue result ↔ HasTimesInRange (view value.now)
+            × IsMissingAtMostAtTop (view value.now) }
     {
         match value {
             Value::Missing => true,
@@ -113,8 +118,10 @@ impl LineMaker {
     pub fn put_value(&mut self, name: &str, value: &Value) -> Result<(), OutOfMemory>
         requires times { HasTimesInRange (view value.now) }
         requires missing { IsMissingAtMostAtTop (view value.now) }
-        ensures ok { OnOk result (self.new ≡ self.old ++ pair_text_if_any self.old name.now (view value.now)) }
-        ensures pairs { (output : Output) → self.old ≡ begun output → OnOk result (self.new ≡ begun (output ++ pair_if_any name.now (view value.now))) }
+        ensures ok { OnOk result (self.new ≡ self.old
+            ++ pair_text_if_any self.old name.now (view value.now)) }
+        ensures pairs { (output : Output) → self.old ≡ begun output
+            → OnOk result (self.new ≡ begun (output ++ pair_if_any name.now (view value.now))) }
         ensures err { OnErr result (self.new ≡ []) }
     {
         if let Value::Missing = value {
@@ -132,7 +139,8 @@ impl LineMaker {
     /// The line, with its end.
     pub fn finish(self) -> Result<Bytes, OutOfMemory>
         ensures ok { IfOk result (λ line. line ≡ self ++ 125 ∷ 10 ∷ []) }
-        ensures pairs { (output : Output) → self ≡ begun output → IfOk result (λ line. line ≡ line_text output) }
+        ensures pairs { (output : Output) → self ≡ begun output
+            → IfOk result (λ line. line ≡ line_text output) }
     {
         let mut line = self.line;
         line.push_all(b"}\n")?;

@@ -35,7 +35,8 @@ pub fn put_value(into: &mut Bytes, table: &SymTab<'_>, cell: &Cell<'_>) -> Resul
 #[cycle(values)]
 fn put_list(into: &mut Bytes, table: &SymTab<'_>, mut cells: Cells<'_>) -> Result<(), OutOfMemory>
     requires { HasLast table.now (items_last cells) }
-    ensures { OnOk result (into.new ≡ into.old ++ value_text (list (vals (values_left table.now cells.entry)))) }
+    ensures { OnOk result (into.new ≡ into.old
+        ++ value_text (list (vals (values_left table.now cells.entry)))) }
 {
     into.push_all(b"[")?;
     let mut later = false;
@@ -57,7 +58,8 @@ fn put_struct(
     mut pairs: Fields<'_>,
 ) -> Result<(), OutOfMemory>
     requires { HasLast table.now (fields_last pairs) }
-    ensures { OnOk result (into.new ≡ into.old ++ value_text (struct (fields (pairs_left table.now pairs.entry)))) }
+    ensures { OnOk result (into.new ≡ into.old
+        ++ value_text (struct (fields (pairs_left table.now pairs.entry)))) }
 {
     into.push_all(b"{")?;
     let mut later = false;

@@ -38,7 +38,8 @@ pub fn const16<'b>(value: Look<'b>, m: LaneMask) -> Lanes<'b>
 
 // One time in each lane of `m`.
 fn one_time<'b>(moment: i64, m: LaneMask) -> Lanes<'b>
-    ensures value { (table : Table) (i : ℕ) → i < 16 → value_at table result i ≡ under (has m.0 i) (time moment) }
+    ensures value { (table : Table) (i : ℕ) → i < 16
+        → value_at table result i ≡ under (has m.0 i) (time moment) }
     ensures legal { (table : Table) → IsTime moment → AreLegal table result }
 {
     Lanes::times(
@@ -52,7 +53,8 @@ fn one_time<'b>(moment: i64, m: LaneMask) -> Lanes<'b>
 
 // One text in each lane of `m`.
 fn one_text<'b>(bytes: &'b [u8], m: LaneMask) -> Lanes<'b>
-    ensures value { (table : Table) (i : ℕ) → i < 16 → value_at table result i ≡ under (has m.0 i) (text bytes.now) }
+    ensures value { (table : Table) (i : ℕ) → i < 16
+        → value_at table result i ≡ under (has m.0 i) (text bytes.now) }
     ensures legal { (table : Table) → IsUtf8 bytes.now → AreLegal table result }
 {
     Lanes::texts(m, SpanLanes { lanes: [bytes; 16] })
@@ -60,7 +62,8 @@ fn one_text<'b>(bytes: &'b [u8], m: LaneMask) -> Lanes<'b>
 
 // One list or struct in each lane of `m`.
 fn one_tree<'b>(cell: &'b [u8], m: LaneMask) -> Lanes<'b>
-    ensures value { (table : Table) (i : ℕ) → i < 16 → value_at table result i ≡ under (has m.0 i) (cell_value table cell.now) }
+    ensures value { (table : Table) (i : ℕ) → i < 16
+        → value_at table result i ≡ under (has m.0 i) (cell_value table cell.now) }
     ensures legal { (table : Table) → IsTree table cell.now → AreLegal table result }
 {
     Lanes::trees(m, SpanLanes { lanes: [cell; 16] })

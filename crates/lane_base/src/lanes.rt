@@ -67,7 +67,8 @@ impl<'b> Lanes<'b> {
     #[inline(always)]
     pub fn truths(null: LaneMask, yes: LaneMask, no: LaneMask) -> Lanes<'b>
         requires { AreApart null.0 yes.0 no.0 }
-        ensures value { (table : Table) (i : ℕ) → i < 16 → value_at table result i ≡ truth_as (has null.0 i) (has yes.0 i) (has no.0 i) }
+        ensures value { (table : Table) (i : ℕ) → i < 16
+            → value_at table result i ≡ truth_as (has null.0 i) (has yes.0 i) (has no.0 i) }
         ensures legal { (table : Table) → AreLegal table result }
     {
         Lanes {
@@ -88,7 +89,8 @@ impl<'b> Lanes<'b> {
     pub fn ints(null: LaneMask, number: LaneMask, nums: IntLanes) -> Lanes<'b>
         requires { (k : ℕ) → (has null.0 k && has number.0 k) ≡ false }
         ensures value { (table : Table) (i : ℕ) → i < 16
-            → value_at table result i ≡ one_as (has null.0 i) (has number.0 i) (int (number_at nums.lanes i)) }
+            → value_at table result i ≡ one_as (has null.0 i) (has number.0 i)
+            (int (number_at nums.lanes i)) }
         ensures legal { (table : Table) → AreLegal table result }
     {
         Lanes {
@@ -110,8 +112,10 @@ impl<'b> Lanes<'b> {
     pub fn times(null: LaneMask, moment: LaneMask, nums: IntLanes) -> Lanes<'b>
         requires { (k : ℕ) → (has null.0 k && has moment.0 k) ≡ false }
         ensures value { (table : Table) (i : ℕ) → i < 16
-            → value_at table result i ≡ one_as (has null.0 i) (has moment.0 i) (time (number_at nums.lanes i)) }
-        ensures legal { (table : Table) → ((i : ℕ) → i < 16 → has moment.0 i ≡ true → IsTime (number_at nums.lanes i))
+            → value_at table result i ≡ one_as (has null.0 i) (has moment.0 i)
+            (time (number_at nums.lanes i)) }
+        ensures legal { (table : Table)
+            → ((i : ℕ) → i < 16 → has moment.0 i ≡ true → IsTime (number_at nums.lanes i))
             → AreLegal table result }
     {
         Lanes {
@@ -131,8 +135,10 @@ impl<'b> Lanes<'b> {
     #[inline(always)]
     pub fn texts(string: LaneMask, spans: SpanLanes<'b>) -> Lanes<'b>
         ensures value { (table : Table) (i : ℕ) → i < 16
-            → value_at table result i ≡ under (has string.0 i) (text (span_at spans.entry.lanes i)) }
-        ensures legal { (table : Table) → ((i : ℕ) → i < 16 → has string.0 i ≡ true → IsUtf8 (span_at spans.entry.lanes i))
+            → value_at table result i ≡ under (has string.0 i)
+            (text (span_at spans.entry.lanes i)) }
+        ensures legal { (table : Table)
+            → ((i : ℕ) → i < 16 → has string.0 i ≡ true → IsUtf8 (span_at spans.entry.lanes i))
             → AreLegal table result }
     {
         Lanes {
@@ -152,8 +158,11 @@ impl<'b> Lanes<'b> {
     #[inline(always)]
     pub fn trees(nested: LaneMask, spans: SpanLanes<'b>) -> Lanes<'b>
         ensures value { (table : Table) (i : ℕ) → i < 16
-            → value_at table result i ≡ under (has nested.0 i) (cell_value table (span_at spans.entry.lanes i)) }
-        ensures legal { (table : Table) → ((i : ℕ) → i < 16 → has nested.0 i ≡ true → IsTree table (span_at spans.entry.lanes i))
+            → value_at table result i ≡ under (has nested.0 i)
+            (cell_value table (span_at spans.entry.lanes i)) }
+        ensures legal { (table : Table)
+            → ((i : ℕ) → i < 16 → has nested.0 i ≡ true
+            → IsTree table (span_at spans.entry.lanes i))
             → AreLegal table result }
     {
         Lanes {
@@ -213,7 +222,8 @@ impl<'b> Lanes<'b> {
     #[inline(always)]
     pub fn solid(&self) -> LaneMask
         ensures { (table : Table) (i : ℕ) → i < 16 → IsLegal table (shown self.now i)
-            → has result.0 i ≡ not (is_missing (value_at table self.now i) || is_null (value_at table self.now i)) }
+            → has result.0 i ≡ not (is_missing (value_at table self.now i)
+            || is_null (value_at table self.now i)) }
     {
         LaneMask(self.yes.0 | self.no.0 | self.int.0 | self.time.0 | self.text.0 | self.tree.0)
     }

@@ -13,8 +13,10 @@ use tree_meaning::IsWhat;
 
 /// `a AND b` in the lanes of `m`.
 pub fn and16<'b>(a: &Lanes<'b>, b: &Lanes<'b>, m: LaneMask) -> Lanes<'b>
-    ensures value { (table : Table) → AreLegalIn table m.0 a.now → AreLegalIn table m.0 b.now → (i : ℕ) → i < 16
-        → value_at table result i ≡ under (has m.0 i) (and_of (value_at table a.now i) (value_at table b.now i)) }
+    ensures value { (table : Table) → AreLegalIn table m.0 a.now → AreLegalIn table m.0 b.now
+        → (i : ℕ) → i < 16
+        → value_at table result i ≡ under (has m.0 i)
+        (and_of (value_at table a.now i) (value_at table b.now i)) }
     ensures legal { (table : Table) → AreLegal table result }
 {
     let null = ((a.null.0 & (b.null.0 | b.yes.0)) | (a.yes.0 & b.null.0)) & m.0;
@@ -25,8 +27,10 @@ pub fn and16<'b>(a: &Lanes<'b>, b: &Lanes<'b>, m: LaneMask) -> Lanes<'b>
 
 /// `a OR b` in the lanes of `m`.
 pub fn or16<'b>(a: &Lanes<'b>, b: &Lanes<'b>, m: LaneMask) -> Lanes<'b>
-    ensures value { (table : Table) → AreLegalIn table m.0 a.now → AreLegalIn table m.0 b.now → (i : ℕ) → i < 16
-        → value_at table result i ≡ under (has m.0 i) (or_of (value_at table a.now i) (value_at table b.now i)) }
+    ensures value { (table : Table) → AreLegalIn table m.0 a.now → AreLegalIn table m.0 b.now
+        → (i : ℕ) → i < 16
+        → value_at table result i ≡ under (has m.0 i)
+        (or_of (value_at table a.now i) (value_at table b.now i)) }
     ensures legal { (table : Table) → AreLegal table result }
 {
     let null = ((a.null.0 & (b.null.0 | b.no.0)) | (a.no.0 & b.null.0)) & m.0;

@@ -12,8 +12,10 @@ use crate::mask::LaneMask;
 /// `a` in the lanes of `pick` and `b` in the others, in the lanes of `m`.
 pub fn merge16<'b>(pick: LaneMask, a: &Lanes<'b>, b: &Lanes<'b>, m: LaneMask) -> Lanes<'b>
     ensures value { (table : Table) (i : ℕ) → i < 16
-        → value_at table result i ≡ under (has m.0 i) (cond (has pick.0 i) (value_at table a.now i) (value_at table b.now i)) }
-    ensures legal { (table : Table) → AreLegalIn table m.0 a.now → AreLegalIn table m.0 b.now → AreLegal table result }
+        → value_at table result i ≡ under (has m.0 i)
+        (cond (has pick.0 i) (value_at table a.now i) (value_at table b.now i)) }
+    ensures legal { (table : Table) → AreLegalIn table m.0 a.now → AreLegalIn table m.0 b.now
+        → AreLegal table result }
 {
     let from_a = m.0 & pick.0;
     let from_b = m.0 ^ from_a;
@@ -33,9 +35,12 @@ pub fn merge16<'b>(pick: LaneMask, a: &Lanes<'b>, b: &Lanes<'b>, m: LaneMask) ->
 /// `COALESCE(a, b)` in the lanes of `m`: `a` where it is neither NULL nor MISSING, else `b`, but NULL where `b` is MISSING
 /// and `a` is NULL.
 pub fn first16<'b>(a: &Lanes<'b>, b: &Lanes<'b>, m: LaneMask) -> Lanes<'b>
-    ensures value { (table : Table) → AreLegalIn table m.0 a.now → AreLegalIn table m.0 b.now → (i : ℕ) → i < 16
-        → value_at table result i ≡ under (has m.0 i) (first_of (value_at table a.now i) (value_at table b.now i)) }
-    ensures legal { (table : Table) → AreLegalIn table m.0 a.now → AreLegalIn table m.0 b.now → AreLegal table result }
+    ensures value { (table : Table) → AreLegalIn table m.0 a.now → AreLegalIn table m.0 b.now
+        → (i : ℕ) → i < 16
+        → value_at table result i ≡ under (has m.0 i)
+        (first_of (value_at table a.now i) (value_at table b.now i)) }
+    ensures legal { (table : Table) → AreLegalIn table m.0 a.now → AreLegalIn table m.0 b.now
+        → AreLegal table result }
 {
     let solid = a.solid();
     let present = b.present();
@@ -44,7 +49,8 @@ pub fn first16<'b>(a: &Lanes<'b>, b: &Lanes<'b>, m: LaneMask) -> Lanes<'b>
 
 /// `a` in the lanes of `m`.
 pub fn keep16<'b>(a: &Lanes<'b>, m: LaneMask) -> Lanes<'b>
-    ensures value { (table : Table) (i : ℕ) → i < 16 → value_at table result i ≡ under (has m.0 i) (value_at table a.now i) }
+    ensures value { (table : Table) (i : ℕ) → i < 16
+        → value_at table result i ≡ under (has m.0 i) (value_at table a.now i) }
     ensures legal { (table : Table) → AreLegalIn table m.0 a.now → AreLegal table result }
 {
     Lanes {
@@ -62,7 +68,8 @@ pub fn keep16<'b>(a: &Lanes<'b>, m: LaneMask) -> Lanes<'b>
 
 // The numbers of `a` in the lanes of `pick`, and those of `b` in the others.
 fn pick_nums(pick: LaneMask, a: &IntLanes, b: &IntLanes) -> IntLanes
-    ensures { (k : ℕ) → k < 16 → number_at result.lanes k ≡ cond (has pick.0 k) (number_at a.now.lanes k) (number_at b.now.lanes k) }
+    ensures { (k : ℕ) → k < 16 → number_at result.lanes k
+        ≡ cond (has pick.0 k) (number_at a.now.lanes k) (number_at b.now.lanes k) }
 {
     let mut lanes = b.lanes;
     for i in 0..16usize {
@@ -75,7 +82,8 @@ fn pick_nums(pick: LaneMask, a: &IntLanes, b: &IntLanes) -> IntLanes
 
 // The spans of `a` in the lanes of `pick`, and those of `b` in the others.
 fn pick_spans<'b>(pick: LaneMask, a: &SpanLanes<'b>, b: &SpanLanes<'b>) -> SpanLanes<'b>
-    ensures { (k : ℕ) → k < 16 → span_at result.lanes k ≡ cond (has pick.0 k) (span_at a.now.lanes k) (span_at b.now.lanes k) }
+    ensures { (k : ℕ) → k < 16 → span_at result.lanes k
+        ≡ cond (has pick.0 k) (span_at a.now.lanes k) (span_at b.now.lanes k) }
 {
     let mut lanes = b.lanes;
     for i in 0..16usize {

@@ -54,7 +54,8 @@ impl<'b> CellLanes<'b> {
     #[tactic(auto, using(crate::proofs::Putting::put_at, crate::proofs::OwnTables::some_fits), unfolding(crate::specs::CellsOf::cell_in))]
     pub fn put(&mut self, lane: u32, cell: Option<Cell<'b>>)
         requires { lane < 16 }
-        ensures cells { (i : ℕ) → i < 16 → cell_in self.new i ≡ cond (nat_eq i lane) cell.entry (cell_in self.old i) }
+        ensures cells { (i : ℕ) → i < 16
+            → cell_in self.new i ≡ cond (nat_eq i lane) cell.entry (cell_in self.old i) }
         ensures fits { IfSome cell.entry (λ c. (table : Table) → Fits table c → IsCellOf table c) }
     {
         let cells = &mut self.cells[..];

@@ -68,7 +68,8 @@ fn field_at<'b>(a: &Lanes<'b>, label: u32, lane: u32, m: LaneMask) -> Option<Cel
 /// The same in every lane.
 fn fields_at<'b>(a: &Lanes<'b>, label: u32, m: LaneMask) -> CellLanes<'b>
     requires { AreUnderOne m.0 a.now }
-    ensures { (n : List ℕ) (i : ℕ) → i < 16 → StepAt (name n) (IsNamed label n) m.0 a.now i (cell_in result i) }
+    ensures { (n : List ℕ) (i : ℕ) → i < 16
+        → StepAt (name n) (IsNamed label n) m.0 a.now i (cell_in result i) }
 {
     let mut cells = CellLanes::none();
     for i in 0..16u32 {
@@ -83,7 +84,8 @@ fn fields_at<'b>(a: &Lanes<'b>, label: u32, m: LaneMask) -> CellLanes<'b>
 pub fn find16<'b>(a: &Lanes<'b>, symbol: Option<u32>, m: LaneMask) -> CellLanes<'b>
     requires { AreUnderOne m.0 a.now }
     ensures value { FindsNames symbol m.0 a.now result }
-    ensures legal { (table : Table) (lanes : ℕ) → AreUnder table m.0 a.now → AreCellsOf table lanes result }
+    ensures legal { (table : Table) (lanes : ℕ) → AreUnder table m.0 a.now
+        → AreCellsOf table lanes result }
     ensures none { (i : ℕ) → i < 16 → has m.0 i ≡ false → cell_in result i ≡ no_cell }
 {
     match symbol {

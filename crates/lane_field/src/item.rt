@@ -53,7 +53,8 @@ fn item_at<'b>(a: &Lanes<'b>, place: u32, lane: u32, m: LaneMask) -> Option<Cell
 pub fn item16<'b>(a: &Lanes<'b>, at: u32, m: LaneMask) -> CellLanes<'b>
     requires { AreUnderOne m.0 a.now }
     ensures value { GivesItems at m.0 a.now result }
-    ensures legal { (table : Table) (lanes : ℕ) → AreUnder table m.0 a.now → AreCellsOf table lanes result }
+    ensures legal { (table : Table) (lanes : ℕ) → AreUnder table m.0 a.now
+        → AreCellsOf table lanes result }
     ensures none { (i : ℕ) → i < 16 → has m.0 i ≡ false → cell_in result i ≡ no_cell }
 {
     let mut cells = CellLanes::none();

@@ -44,7 +44,9 @@ fn no_lanes() -> KindMasks
 #[inline(always)]
 fn and_kind(masks: KindMasks, lane: u32, kind: Kind) -> KindMasks
     requires { lane < 16 }
-    ensures { (other : Kind) (i : ℕ) → has (mask_of other result) i ≡ ((nat_eq i lane && same_kind other kind) || has (mask_of other masks) i) }
+    ensures { (other : Kind) (i : ℕ)
+        → has (mask_of other result) i ≡ ((nat_eq i lane && same_kind other kind)
+        || has (mask_of other masks) i) }
 {
     match kind {
         Kind::Null => KindMasks {
@@ -86,7 +88,8 @@ fn and_kind(masks: KindMasks, lane: u32, kind: Kind) -> KindMasks
 #[inline(always)]
 fn and_cell(masks: KindMasks, lane: u32, cell: Option<Cell<'_>>) -> KindMasks
     requires { lane < 16 }
-    ensures { (table : Table) → IfSome cell.entry (IsCellOf table) → (kind : Kind) (i : ℕ) → has (mask_of kind result) i
+    ensures { (table : Table) → IfSome cell.entry (IsCellOf table) → (kind : Kind) (i : ℕ)
+        → has (mask_of kind result) i
         ≡ ((nat_eq i lane && is_of_kind table kind cell.entry) || has (mask_of kind masks) i) }
 {
     match cell {

@@ -88,7 +88,8 @@ fn all_missing<'b>() -> Lanes<'b>
 #[tactic(auto, using(crate::proofs::Putting::put_at))]
 fn put_number(nums: &mut IntLanes, lane: u32, number: i64)
     requires { lane < 16 }
-    ensures { (i : ℕ) → number_at nums.new.lanes i ≡ cond (nat_eq i lane) number (number_at nums.old.lanes i) }
+    ensures { (i : ℕ) → number_at nums.new.lanes i
+        ≡ cond (nat_eq i lane) number (number_at nums.old.lanes i) }
 {
     nums.lanes[lane as usize] = number;
 }
@@ -97,7 +98,8 @@ fn put_number(nums: &mut IntLanes, lane: u32, number: i64)
 #[inline(always)]
 fn put_span<'b>(spans: &mut SpanLanes<'b>, lane: u32, bytes: &'b [u8])
     requires { lane < 16 }
-    ensures { (i : ℕ) → span_at spans.new.lanes i ≡ cond (nat_eq i lane) bytes.now (span_at spans.old.lanes i) }
+    ensures { (i : ℕ) → span_at spans.new.lanes i
+        ≡ cond (nat_eq i lane) bytes.now (span_at spans.old.lanes i) }
 {
     spans.lanes[lane as usize] = bytes;
 }
@@ -107,7 +109,8 @@ fn put_span<'b>(spans: &mut SpanLanes<'b>, lane: u32, bytes: &'b [u8])
 fn put<'b>(lanes: &mut Lanes<'b>, lane: u32, look: Look<'b>)
     requires within { lane < 16 }
     requires missing { shown lanes.old lane ≡ to.Missing }
-    ensures { (i : ℕ) → i < 16 → shown lanes.new i ≡ cond (nat_eq i lane) (seen look.entry) (shown lanes.old i) }
+    ensures { (i : ℕ) → i < 16 → shown lanes.new i
+        ≡ cond (nat_eq i lane) (seen look.entry) (shown lanes.old i) }
 {
     match look {
         Look::Missing => {}
@@ -163,7 +166,8 @@ pub fn texts16<'b>(c: &CellLanes<'b>, table: &SymTab<'b>, m: LaneMask) -> SpanLa
 #[inline(always)]
 pub fn load16<'b>(c: &CellLanes<'b>, table: &SymTab<'b>, m: LaneMask) -> Lanes<'b>
     requires { AreCellsOf table.now m.0 c.now }
-    ensures value { (i : ℕ) → i < 16 → value_at table.now result i ≡ denoted table.now (cell_within m.0 c.now i) }
+    ensures value { (i : ℕ) → i < 16
+        → value_at table.now result i ≡ denoted table.now (cell_within m.0 c.now i) }
     ensures legal { AreLegal table.now result }
     ensures under { (mask : ℕ) → AreUnder table.now mask result }
 {

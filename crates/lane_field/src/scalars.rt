@@ -13,7 +13,8 @@ use lane_base::{IntLanes, LaneMask};
 /// The number of the cell, 0 where there is none or it is of another kind.
 #[inline(always)]
 fn int_in(cell: Option<Cell<'_>>) -> i64
-    ensures { (table : Table) → IfSome cell.entry (IsCellOf table) → result ≡ unwrap_or (int_of (denoted table cell.entry)) (pos 0) }
+    ensures { (table : Table) → IfSome cell.entry (IsCellOf table)
+        → result ≡ unwrap_or (int_of (denoted table cell.entry)) (pos 0) }
 {
     match cell {
         Some(cell) => match cell.int() {
@@ -27,7 +28,8 @@ fn int_in(cell: Option<Cell<'_>>) -> i64
 /// The microseconds of the cell, 0 where there is none or it is of another kind.
 #[inline(always)]
 fn micros_in(cell: Option<Cell<'_>>) -> i64
-    ensures { (table : Table) → IfSome cell.entry (IsCellOf table) → result ≡ unwrap_or (time_of (denoted table cell.entry)) (pos 0) }
+    ensures { (table : Table) → IfSome cell.entry (IsCellOf table)
+        → result ≡ unwrap_or (time_of (denoted table cell.entry)) (pos 0) }
 {
     match cell {
         Some(cell) => match cell.micros() {
@@ -41,7 +43,8 @@ fn micros_in(cell: Option<Cell<'_>>) -> i64
 /// Whether there is a cell and it is true.
 #[inline(always)]
 fn truth_in(cell: Option<Cell<'_>>) -> bool
-    ensures { (table : Table) → IfSome cell.entry (IsCellOf table) → result ≡ unwrap_or (truth_of (denoted table cell.entry)) false }
+    ensures { (table : Table) → IfSome cell.entry (IsCellOf table)
+        → result ≡ unwrap_or (truth_of (denoted table cell.entry)) false }
 {
     match cell {
         Some(cell) => match cell.boolean() {

@@ -22,14 +22,18 @@ pub struct Stored {
 
 /// Reads the tail, the index and the block of a file, each by one call.
 pub fn load<F: Files>(alloc: Global, files: &mut F, name: &str) -> Result<Stored, QueryFault>
-    ensures stored { IfOk result (λ s. Knows (F.told files.old) name.now (HasBlock s.rows s.bytes.items)) }
-    ensures refused { IfErr result (λ fault. EachAllows (F.told files.old) name.now (status_of fault)) }
+    ensures stored { IfOk result (λ s. Knows (F.told files.old) name.now
+        (HasBlock s.rows s.bytes.items)) }
+    ensures refused { IfErr result (λ fault. EachAllows (F.told files.old) name.now
+        (status_of fault)) }
     ensures cause { IfErr result (λ fault. SaysOfFile (F.told files.old) name.now fault) }
     ensures never_writes { IsErrOf result QueryFault.WriteFault → ⊥ }
     ensures told { F.told files.new ≡ F.told files.old }
     ensures same_write_faults { F.write_faults files.new ≡ F.write_faults files.old }
-    ensures fault { HasCause (F.read_faults files.old) (F.read_faults files.new) (IsErrOf result QueryFault.ReadFault) }
-    ensures missed { HasCause (F.misses files.old) (F.misses files.new) (IsErrOf result QueryFault.Absent) }
+    ensures fault { HasCause (F.read_faults files.old) (F.read_faults files.new)
+        (IsErrOf result QueryFault.ReadFault) }
+    ensures missed { HasCause (F.misses files.old) (F.misses files.new)
+        (IsErrOf result QueryFault.Absent) }
 {
     let entry = one_entry(alloc, files, name)?;
     let Ok(mut bytes) = vec![in alloc; 0; entry.length as usize] else {
@@ -47,13 +51,16 @@ pub fn load<F: Files>(alloc: Global, files: &mut F, name: &str) -> Result<Stored
 // The index's entry of a file that has one block and no indexed field.
 fn one_entry<F: Files>(alloc: Global, files: &mut F, name: &str) -> Result<Entry, QueryFault>
     ensures entry { IfOk result (λ e. Knows (F.told files.old) name.now (HasOneBlock e)) }
-    ensures refused { IfErr result (λ fault. EachAllows (F.told files.old) name.now (status_of fault)) }
+    ensures refused { IfErr result (λ fault. EachAllows (F.told files.old) name.now
+        (status_of fault)) }
     ensures cause { IfErr result (λ fault. SaysOfFile (F.told files.old) name.now fault) }
     ensures never_writes { IsErrOf result QueryFault.WriteFault → ⊥ }
     ensures told { F.told files.new ≡ F.told files.old }
     ensures same_write_faults { F.write_faults files.new ≡ F.write_faults files.old }
-    ensures fault { HasCause (F.read_faults files.old) (F.read_faults files.new) (IsErrOf result QueryFault.ReadFault) }
-    ensures missed { HasCause (F.misses files.old) (F.misses files.new) (IsErrOf result QueryFault.Absent) }
+    ensures fault { HasCause (F.read_faults files.old) (F.read_faults files.new)
+        (IsErrOf result QueryFault.ReadFault) }
+    ensures missed { HasCause (F.misses files.old) (F.misses files.new)
+        (IsErrOf result QueryFault.Absent) }
 {
     let index = match read_index(alloc, files, name) {
         Ok(index) => index,

@@ -39,16 +39,21 @@ pub fn run_query<F: Files, O: Out>(
     out: &mut O,
 ) -> Result<QuerySum, QueryFault>
     // The bytes written are those of an answer: all of them at Ok, else a prefix.
-    ensures headline { Headline sql.now name.now (F.told files.old) (status_after result) (O.holds out.old) (O.holds out.new) }
+    ensures headline { Headline sql.now name.now (F.told files.old) (status_after result)
+        (O.holds out.old) (O.holds out.new) }
     // The answer is Ok, or the first fault that the text and the files give rise to.
-    ensures ends { Ends sql.now (F.told files.old) name.now (status_after result) (O.holds out.old) (O.holds out.new) }
+    ensures ends { Ends sql.now (F.told files.old) name.now (status_after result) (O.holds out.old)
+        (O.holds out.new) }
     ensures cause { HasItsCause sql.now (F.told files.old) name.now result }
     ensures quiet { IsQuiet result (O.holds out.old) (O.holds out.new) }
     // Where files tell, what was done is counted.
     ensures sum { IfOk result (λ s. SumsUp sql.now (F.told files.old) name.now s) }
-    ensures absent { IsErrOf result QueryFault.Absent → Rose (F.misses files.old) (F.misses files.new) }
-    ensures read_fault { IsErrOf result QueryFault.ReadFault → Rose (F.read_faults files.old) (F.read_faults files.new) }
-    ensures write_fault { IsErrOf result QueryFault.WriteFault → Rose (O.faults out.old) (O.faults out.new) }
+    ensures absent { IsErrOf result QueryFault.Absent
+        → Rose (F.misses files.old) (F.misses files.new) }
+    ensures read_fault { IsErrOf result QueryFault.ReadFault
+        → Rose (F.read_faults files.old) (F.read_faults files.new) }
+    ensures write_fault { IsErrOf result QueryFault.WriteFault
+        → Rose (O.faults out.old) (O.faults out.new) }
     ensures told { F.told files.new ≡ F.told files.old }
     ensures same_write_faults { F.write_faults files.new ≡ F.write_faults files.old }
 {
@@ -70,12 +75,18 @@ fn write_stored<'b, O: Out>(
     stored: &'b Stored,
     out: &mut O,
 ) -> Result<QuerySum, QueryFault>
-    ensures ends { (sql : List ℕ) (verdict : Verdict) → Compiles sql job.now → FindsInBlock stored.now.rows stored.now.bytes.items verdict → EndsAs sql verdict (status_after result) (O.holds out.old) (O.holds out.new) }
+    ensures ends { (sql : List ℕ) (verdict : Verdict) → Compiles sql job.now
+        → FindsInBlock stored.now.rows stored.now.bytes.items verdict
+        → EndsAs sql verdict (status_after result) (O.holds out.old) (O.holds out.new) }
     ensures quiet { IsQuiet result (O.holds out.old) (O.holds out.new) }
-    ensures damaged { IsErrOf result QueryFault.Damaged → IsDamaged stored.now.rows stored.now.bytes.items }
+    ensures damaged { IsErrOf result QueryFault.Damaged
+        → IsDamaged stored.now.rows stored.now.bytes.items }
     ensures refused { IsBlockFault result }
-    ensures sum { IfOk result (λ s. (sql : List ℕ) (q : QueryTree) (rs : List Val) → Compiles sql job.now → Accepts sql q → FindsInBlock stored.now.rows stored.now.bytes.items (rows rs) → Sums q rs s) }
-    ensures fault { HasCause (O.faults out.old) (O.faults out.new) (IsErrOf result QueryFault.WriteFault) }
+    ensures sum { IfOk result (λ s. (sql : List ℕ) (q : QueryTree) (rs : List Val)
+        → Compiles sql job.now → Accepts sql q
+        → FindsInBlock stored.now.rows stored.now.bytes.items (rows rs) → Sums q rs s) }
+    ensures fault { HasCause (O.faults out.old) (O.faults out.new)
+        (IsErrOf result QueryFault.WriteFault) }
 {
     let block = match open_block(alloc, &stored.bytes, stored.rows) {
         Ok(block) => block,
@@ -92,10 +103,13 @@ fn write_block<'b, O: Out>(
     block: &Block<'b>,
     out: &mut O,
 ) -> Result<QuerySum, QueryFault>
-    ensures written { (q : QueryTree) → Simulates job.now q → is_lowered q ≡ true → Writes result (O.holds out.old) (O.holds out.new) (print (map (output_of q.outs) (passed q block.now.1))) }
+    ensures written { (q : QueryTree) → Simulates job.now q → is_lowered q ≡ true
+        → Writes result (O.holds out.old) (O.holds out.new)
+        (print (map (output_of q.outs) (passed q block.now.1))) }
     ensures sum { IfOk result (λ s. (q : QueryTree) → Simulates job.now q → Sums q block.now.1 s) }
     ensures refused { IsWriteOrMemory result }
-    ensures fault { HasCause (O.faults out.old) (O.faults out.new) (IsErrOf result QueryFault.WriteFault) }
+    ensures fault { HasCause (O.faults out.old) (O.faults out.new)
+        (IsErrOf result QueryFault.WriteFault) }
 {
     block.know();
     let mut frame = match Frame::new(alloc, job) {

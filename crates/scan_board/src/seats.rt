@@ -50,7 +50,8 @@ impl Seats {
 
     /// Removes the last seat. None where there is none.
     pub fn take(&mut self) -> Option<BoardSeat>
-        ensures { MatchOption result ((self.old ≡ []) × (self.new ≡ [])) (λ seat. self.old ≡ self.new ++ seat ∷ []) }
+        ensures { MatchOption result ((self.old ≡ [])
+            × (self.new ≡ [])) (λ seat. self.old ≡ self.new ++ seat ∷ []) }
     {
         self.all.pop().flatten()
     }

@@ -14,9 +14,12 @@ pub fn step(state: &mut ScanState, event: ScanEvent) -> Result<Told, StepFault>
     ensures after { IfOk result (λ _. shown state.new ≡ after (shown state.old) event) }
     ensures told { IfOk result (λ told. told ≡ tells (shown state.old) event) }
 
-    ensures no_such_seat { IsErrOf result StepFault.NoSuchSeat ↔ (length state.old.views ≤ seat_of event) }
-    ensures unlawful { IsErrOf result StepFault.Unlawful ↔ ((seat_of event < length state.old.views) × ¬ Lawful (shown state.old) event) }
-    ensures out_of_memory { IsErrOf result StepFault.OutOfMemory → TakesClaim (shown state.old) event }
+    ensures no_such_seat { IsErrOf result StepFault.NoSuchSeat
+        ↔ (length state.old.views ≤ seat_of event) }
+    ensures unlawful { IsErrOf result StepFault.Unlawful
+        ↔ ((seat_of event < length state.old.views) × ¬ Lawful (shown state.old) event) }
+    ensures out_of_memory { IsErrOf result StepFault.OutOfMemory
+        → TakesClaim (shown state.old) event }
     ensures err { OnErr result (shown state.new ≡ shown state.old) }
 {
     state.play(event)

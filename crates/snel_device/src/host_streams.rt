@@ -35,7 +35,8 @@ impl<R: Read> Input for HostInput<R> {
         ensures ended { IfOk result (λ n. n ≡ 0 → 0 < length into.new → IsAtEnd untold_bytes) }
         ensures unchanged { OnErr result (untold_bytes ≡ untold_bytes) }
         ensures fault { HasCause self.old.faults self.new.faults (IsErr result) }
-        ensures given { ReadConsumes (R.remaining self.old.inner) (R.remaining self.new.inner) result into.new }
+        ensures given { ReadConsumes (R.remaining self.old.inner)
+            (R.remaining self.new.inner) result into.new }
     {
         match self.inner.read(into) {
             Ok(count) => Ok(count),
@@ -74,9 +75,11 @@ impl<W: Write> Out for HostOut<W> {
     /// empty is a failure.
     fn put(&mut self, piece: &[u8]) -> Result<(), Failed>
         ensures added { OnOk result (Appends untold_bytes untold_bytes piece.now) }
-        ensures cut { OnErr result ((n : ℕ) × Appends untold_bytes untold_bytes (take n piece.now)) }
+        ensures cut { OnErr result ((n : ℕ)
+            × Appends untold_bytes untold_bytes (take n piece.now)) }
         ensures fault { HasCause self.old.faults self.new.faults (IsErr result) }
-        ensures taken { OnOk result (Appends (W.contents self.old.inner) (W.contents self.new.inner) piece.now) }
+        ensures taken { OnOk result (Appends (W.contents self.old.inner)
+            (W.contents self.new.inner) piece.now) }
     {
         match self.inner.write_all(piece) {
             Ok(()) => Ok(()),

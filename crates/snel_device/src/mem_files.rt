@@ -50,7 +50,8 @@ impl MemFiles {
     ///
     /// An error says that no memory was left; then nothing changed.
     pub fn insert(&mut self, name: &str, bytes: &[u8]) -> Result<(), AllocError>
-        ensures put { OnOk result (stored self.new ≡ with_file name.now bytes.now (stored self.old)) }
+        ensures put { OnOk result (stored self.new
+            ≡ with_file name.now bytes.now (stored self.old)) }
         ensures unchanged { OnErr result (stored self.new ≡ stored self.old) }
         ensures others { ChangesFilesOnly self.old self.new }
     {
@@ -59,7 +60,8 @@ impl MemFiles {
 
     // Counts a failed write.
     fn fail_write(&mut self) -> Failed
-        ensures counted { self.new ≡ record self.old { write_faults = raised self.old.write_faults 1 } }
+        ensures counted { self.new ≡ record self.old { write_faults = raised self.old.write_faults 1
+            } }
         ensures later { self.old.write_faults ≤ self.new.write_faults }
     {
         self.write_faults = self.write_faults.saturating_add(1);
@@ -95,16 +97,22 @@ impl Files for MemFiles {
     ghost taken = { λ s. s.taken };
 
     fn size(&mut self, name: &str) -> Result<u64, SizeFault>
-        ensures length { IfOk result (λ n. ForSome (Some (stored self.old)) (λ files. IsSomeAnd (files name.now) (λ bytes. n ≡ length bytes))) }
-        ensures absent { IsErrOf result SizeFault.Absent → ForSome (Some (stored self.old)) (λ files. files name.now ≡ None) }
-        ensures failed { IsErrOf result SizeFault.Failed → ForSome (Some (stored self.old)) (λ files. IsSome (files name.now)) }
+        ensures length { IfOk result (λ n. ForSome (Some (stored self.old))
+            (λ files. IsSomeAnd (files name.now) (λ bytes. n ≡ length bytes))) }
+        ensures absent { IsErrOf result SizeFault.Absent
+            → ForSome (Some (stored self.old)) (λ files. files name.now ≡ None) }
+        ensures failed { IsErrOf result SizeFault.Failed
+            → ForSome (Some (stored self.old)) (λ files. IsSome (files name.now)) }
         ensures told { Some (stored self.new) ≡ Some (stored self.old) }
-        ensures fault { HasCause self.old.read_faults self.new.read_faults (IsErrOf result SizeFault.Failed) }
-        ensures missed { HasCause self.old.misses self.new.misses (IsErrOf result SizeFault.Absent) }
+        ensures fault { HasCause self.old.read_faults self.new.read_faults
+            (IsErrOf result SizeFault.Failed) }
+        ensures missed { HasCause self.old.misses self.new.misses
+            (IsErrOf result SizeFault.Absent) }
         ensures same_write_faults { self.new.write_faults ≡ self.old.write_faults }
         ensures same_taken { self.new.taken ≡ self.old.taken }
         ensures fails { IsTrue (fails_next (schedule self.old)) → IsErr result }
-        ensures scheduled { IsErrOf result SizeFault.Failed → IsTrue (fails_next (schedule self.old)) }
+        ensures scheduled { IsErrOf result SizeFault.Failed
+            → IsTrue (fails_next (schedule self.old)) }
         ensures counted { schedule self.new ≡ after_call (schedule self.old) }
     {
         let fails = self.schedule.count_call();
@@ -122,8 +130,10 @@ impl Files for MemFiles {
     }
 
     fn read_at(&mut self, name: &str, at: u64, into: &mut [u8]) -> Result<(), Failed>
-        requires { ForSome (Some (stored self.old)) (λ files. IsWithin files name.now at (length into.old)) }
-        ensures bytes { OnOk result (ForSome (Some (stored self.old)) (λ files. HasAt files name.now at into.new)) }
+        requires { ForSome (Some (stored self.old))
+            (λ files. IsWithin files name.now at (length into.old)) }
+        ensures bytes { OnOk result (ForSome (Some (stored self.old))
+            (λ files. HasAt files name.now at into.new)) }
         ensures told { Some (stored self.new) ≡ Some (stored self.old) }
         ensures taken { Takes self.old.taken self.new.taken (length into.old) result }
         ensures fault { HasCause self.old.read_faults self.new.read_faults (IsErr result) }
@@ -143,11 +153,15 @@ impl Files for MemFiles {
     }
 
     fn fresh(&mut self, name: &str) -> Result<(), FreshFault>
-        ensures made { OnOk result (Sets (Some (stored self.old)) (Some (stored self.new)) name.now []) }
+        ensures made { OnOk result (Sets (Some (stored self.old))
+            (Some (stored self.new)) name.now []) }
         ensures unchanged { OnErr result (Some (stored self.new) ≡ Some (stored self.old)) }
-        ensures exists { ForSome (Some (stored self.old)) (λ files. IsErrOf result FreshFault.Exists ↔ IsSome (files name.now)) }
-        ensures fault { HasCause self.old.write_faults self.new.write_faults (IsErrOf result FreshFault.Failed) }
-        ensures missed { HasCause self.old.misses self.new.misses (IsErrOf result FreshFault.Exists) }
+        ensures exists { ForSome (Some (stored self.old)) (λ files. IsErrOf result FreshFault.Exists
+            ↔ IsSome (files name.now)) }
+        ensures fault { HasCause self.old.write_faults self.new.write_faults
+            (IsErrOf result FreshFault.Failed) }
+        ensures missed { HasCause self.old.misses self.new.misses
+            (IsErrOf result FreshFault.Exists) }
         ensures same_read_faults { self.new.read_faults ≡ self.old.read_faults }
         ensures same_taken { self.new.taken ≡ self.old.taken }
         ensures fails { IsTrue (fails_next (schedule self.old)) → IsErr result }
@@ -168,8 +182,11 @@ impl Files for MemFiles {
     /// At `Failed` nothing was added.
     fn append(&mut self, name: &str, piece: &[u8]) -> Result<(), Failed>
         requires { ForSome (Some (stored self.old)) (λ files. IsSome (files name.now)) }
-        ensures grown { OnOk result (Extends (Some (stored self.old)) (Some (stored self.new)) name.now piece.now) }
-        ensures cut { OnErr result ((n : ℕ) × Extends (Some (stored self.old)) (Some (stored self.new)) name.now (take n piece.now)) }
+        ensures grown { OnOk result (Extends (Some (stored self.old))
+            (Some (stored self.new)) name.now piece.now) }
+        ensures cut { OnErr result ((n : ℕ)
+            × Extends (Some (stored self.old)) (Some (stored self.new)) name.now
+            (take n piece.now)) }
         ensures fault { HasCause self.old.write_faults self.new.write_faults (IsErr result) }
         ensures same_read_faults { self.new.read_faults ≡ self.old.read_faults }
         ensures same_misses { self.new.misses ≡ self.old.misses }

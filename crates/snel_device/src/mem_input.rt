@@ -63,11 +63,14 @@ impl Input for MemInput {
     /// It gives as many bytes as there are, as fit, and as one call may give.
     fn read(&mut self, into: &mut [u8]) -> Result<usize, Failed>
         ensures bound { IfOk result (λ n. n ≤ length into.new) }
-        ensures bytes { IfOk result (λ n. Consumes (Some (unread self.old)) (Some (unread self.new)) (take n into.new)) }
-        ensures ended { IfOk result (λ n. n ≡ 0 → 0 < length into.new → IsAtEnd (Some (unread self.new))) }
+        ensures bytes { IfOk result (λ n. Consumes (Some (unread self.old)) (Some (unread self.new))
+            (take n into.new)) }
+        ensures ended { IfOk result (λ n. n ≡ 0 → 0 < length into.new
+            → IsAtEnd (Some (unread self.new))) }
         ensures unchanged { OnErr result (Some (unread self.new) ≡ Some (unread self.old)) }
         ensures fault { HasCause self.old.faults self.new.faults (IsErr result) }
-        ensures count { IfOk result (λ n. n ≡ min (min (most_per_call self.old) (length into.old)) (length (unread self.old))) }
+        ensures count { IfOk result (λ n. n
+            ≡ min (min (most_per_call self.old) (length into.old)) (length (unread self.old))) }
         ensures same_most { most_per_call self.new ≡ most_per_call self.old }
         ensures fails { IsErr result ↔ IsTrue (fails_next (schedule self.old)) }
         ensures counted { schedule self.new ≡ after_call (schedule self.old) }

@@ -67,11 +67,15 @@ impl Out for MemOut {
 
     /// A call that finds no memory fails and keeps nothing.
     fn put(&mut self, piece: &[u8]) -> Result<(), Failed>
-        ensures added { OnOk result (Appends (Some (put_bytes self.old)) (Some (put_bytes self.new)) piece.now) }
-        ensures cut { OnErr result ((n : ℕ) × Appends (Some (put_bytes self.old)) (Some (put_bytes self.new)) (take n piece.now)) }
+        ensures added { OnOk result (Appends (Some (put_bytes self.old))
+            (Some (put_bytes self.new)) piece.now) }
+        ensures cut { OnErr result ((n : ℕ)
+            × Appends (Some (put_bytes self.old)) (Some (put_bytes self.new)) (take n piece.now)) }
         ensures fault { HasCause self.old.faults self.new.faults (IsErr result) }
-        ensures fails { IfSome (kept_next self.old) (λ n. IsErr result × Keeps self.old self.new n piece.now) }
-        ensures refused { IsNone (kept_next self.old) → OnErr result (put_bytes self.new ≡ put_bytes self.old) }
+        ensures fails { IfSome (kept_next self.old) (λ n. IsErr result
+            × Keeps self.old self.new n piece.now) }
+        ensures refused { IsNone (kept_next self.old)
+            → OnErr result (put_bytes self.new ≡ put_bytes self.old) }
         ensures counted { calls_made self.new ≡ raised (calls_made self.old) 1 }
         ensures same_failing { failing_calls self.new ≡ failing_calls self.old }
     {

@@ -56,12 +56,17 @@ pub trait Files {
     /// Where files are told, `Absent` comes exactly where there is none of this name, and
     /// otherwise the length or `Failed` comes.
     fn size(&mut self, name: &str) -> Result<u64, SizeFault>
-        ensures length { IfOk result (λ n. ForSome (told self.old) (λ files. IsSomeAnd (files name.now) (λ bytes. n ≡ length bytes))) }
-        ensures absent { IsErrOf result SizeFault.Absent → ForSome (told self.old) (λ files. files name.now ≡ None) }
-        ensures failed { IsErrOf result SizeFault.Failed → ForSome (told self.old) (λ files. IsSome (files name.now)) }
+        ensures length { IfOk result (λ n. ForSome (told self.old)
+            (λ files. IsSomeAnd (files name.now) (λ bytes. n ≡ length bytes))) }
+        ensures absent { IsErrOf result SizeFault.Absent
+            → ForSome (told self.old) (λ files. files name.now ≡ None) }
+        ensures failed { IsErrOf result SizeFault.Failed
+            → ForSome (told self.old) (λ files. IsSome (files name.now)) }
         ensures told { told self.new ≡ told self.old }
-        ensures fault { HasCause (read_faults self.old) (read_faults self.new) (IsErrOf result SizeFault.Failed) }
-        ensures missed { HasCause (misses self.old) (misses self.new) (IsErrOf result SizeFault.Absent) }
+        ensures fault { HasCause (read_faults self.old) (read_faults self.new)
+            (IsErrOf result SizeFault.Failed) }
+        ensures missed { HasCause (misses self.old) (misses self.new)
+            (IsErrOf result SizeFault.Absent) }
         ensures same_write_faults { write_faults self.new ≡ write_faults self.old }
         ensures same_taken { taken self.new ≡ taken self.old };
 
@@ -73,7 +78,8 @@ pub trait Files {
     /// many bytes as it has room for were read.
     fn read_at(&mut self, name: &str, at: u64, into: &mut [u8]) -> Result<(), Failed>
         requires { ForSome (told self.old) (λ files. IsWithin files name.now at (length into.old)) }
-        ensures bytes { OnOk result (ForSome (told self.old) (λ files. HasAt files name.now at into.new)) }
+        ensures bytes { OnOk result (ForSome (told self.old)
+            (λ files. HasAt files name.now at into.new)) }
         ensures told { told self.new ≡ told self.old }
         ensures taken { Takes (taken self.old) (taken self.new) (length into.old) result }
         ensures fault { HasCause (read_faults self.old) (read_faults self.new) (IsErr result) }
@@ -87,9 +93,12 @@ pub trait Files {
     fn fresh(&mut self, name: &str) -> Result<(), FreshFault>
         ensures made { OnOk result (Sets (told self.old) (told self.new) name.now []) }
         ensures unchanged { OnErr result (told self.new ≡ told self.old) }
-        ensures exists { ForSome (told self.old) (λ files. IsErrOf result FreshFault.Exists ↔ IsSome (files name.now)) }
-        ensures fault { HasCause (write_faults self.old) (write_faults self.new) (IsErrOf result FreshFault.Failed) }
-        ensures missed { HasCause (misses self.old) (misses self.new) (IsErrOf result FreshFault.Exists) }
+        ensures exists { ForSome (told self.old) (λ files. IsErrOf result FreshFault.Exists
+            ↔ IsSome (files name.now)) }
+        ensures fault { HasCause (write_faults self.old) (write_faults self.new)
+            (IsErrOf result FreshFault.Failed) }
+        ensures missed { HasCause (misses self.old) (misses self.new)
+            (IsErrOf result FreshFault.Exists) }
         ensures same_read_faults { read_faults self.new ≡ read_faults self.old }
         ensures same_taken { taken self.new ≡ taken self.old };
 
@@ -100,7 +109,8 @@ pub trait Files {
     fn append(&mut self, name: &str, piece: &[u8]) -> Result<(), Failed>
         requires { ForSome (told self.old) (λ files. IsSome (files name.now)) }
         ensures grown { OnOk result (Extends (told self.old) (told self.new) name.now piece.now) }
-        ensures cut { OnErr result ((n : ℕ) × Extends (told self.old) (told self.new) name.now (take n piece.now)) }
+        ensures cut { OnErr result ((n : ℕ)
+            × Extends (told self.old) (told self.new) name.now (take n piece.now)) }
         ensures fault { HasCause (write_faults self.old) (write_faults self.new) (IsErr result) }
         ensures same_read_faults { read_faults self.new ≡ read_faults self.old }
         ensures same_misses { misses self.new ≡ misses self.old }
@@ -122,7 +132,8 @@ pub trait Input {
     /// was taken from the input, and nothing is known of what `into` holds.
     fn read(&mut self, into: &mut [u8]) -> Result<usize, Failed>
         ensures bound { IfOk result (λ n. n ≤ length into.new) }
-        ensures bytes { IfOk result (λ n. Consumes (left self.old) (left self.new) (take n into.new)) }
+        ensures bytes { IfOk result (λ n. Consumes (left self.old) (left self.new)
+            (take n into.new)) }
         ensures ended { IfOk result (λ n. n ≡ 0 → 0 < length into.new → IsAtEnd (left self.new)) }
         ensures unchanged { OnErr result (left self.new ≡ left self.old) }
         ensures fault { HasCause (faults self.old) (faults self.new) (IsErr result) };
@@ -139,7 +150,8 @@ pub trait Out {
     /// Adds the whole piece, or at `Failed` a prefix of it, which may be none of it or all.
     fn put(&mut self, piece: &[u8]) -> Result<(), Failed>
         ensures added { OnOk result (Appends (holds self.old) (holds self.new) piece.now) }
-        ensures cut { OnErr result ((n : ℕ) × Appends (holds self.old) (holds self.new) (take n piece.now)) }
+        ensures cut { OnErr result ((n : ℕ)
+            × Appends (holds self.old) (holds self.new) (take n piece.now)) }
         ensures fault { HasCause (faults self.old) (faults self.new) (IsErr result) };
 }
 

@@ -16,7 +16,8 @@ pub fn copy_front(bytes: &[u8], at: usize, most: usize, into: &mut [u8]) -> usiz
 // Fills `into` with the bytes from a place on, and with zeros past their end.
 pub fn fill_padded(bytes: &[u8], at: usize, into: &mut [u8])
     requires { at ≤ length bytes.now }
-    ensures { into.new ≡ take (length into.old) (drop at bytes.now ++ replicate (length into.old) 0) }
+    ensures { into.new ≡ take (length into.old) (drop at bytes.now
+        ++ replicate (length into.old) 0) }
 {
     let room = into.len();
     into.fill(0);

@@ -59,13 +59,18 @@ impl Files for SteadyFiles<'_> {
 
     /// The length of the lent file, or `Absent` where none of this name was lent.
     fn size(&mut self, name: &str) -> Result<u64, SizeFault>
-        ensures length { IfOk result (λ n. ForSome untold_files (λ files. IsSomeAnd (files name.now) (λ bytes. n ≡ length bytes))) }
-        ensures absent { IsErrOf result SizeFault.Absent → ForSome untold_files (λ files. files name.now ≡ None) }
-        ensures failed { IsErrOf result SizeFault.Failed → ForSome untold_files (λ files. IsSome (files name.now)) }
+        ensures length { IfOk result (λ n. ForSome untold_files
+            (λ files. IsSomeAnd (files name.now) (λ bytes. n ≡ length bytes))) }
+        ensures absent { IsErrOf result SizeFault.Absent
+            → ForSome untold_files (λ files. files name.now ≡ None) }
+        ensures failed { IsErrOf result SizeFault.Failed
+            → ForSome untold_files (λ files. IsSome (files name.now)) }
         ensures fault { HasCause 0 0 (IsErrOf result SizeFault.Failed) }
-        ensures missed { HasCause self.old.misses self.new.misses (IsErrOf result SizeFault.Absent) }
+        ensures missed { HasCause self.old.misses self.new.misses
+            (IsErrOf result SizeFault.Absent) }
         ensures same_taken { self.new.taken ≡ self.old.taken }
-        ensures answer { MatchOption (lent self.old name.now) (result ≡ Err SizeFault.Absent) (λ bytes. result ≡ Ok (length bytes)) }
+        ensures answer { MatchOption (lent self.old name.now) (result ≡ Err SizeFault.Absent)
+            (λ bytes. result ≡ Ok (length bytes)) }
         ensures lent { lent self.new ≡ lent self.old }
         ensures same_appended { appended_count self.new ≡ appended_count self.old }
     {
@@ -80,7 +85,8 @@ impl Files for SteadyFiles<'_> {
 
     /// The bytes of the lent file, with zeros past its end. Another name reads as an empty file.
     fn read_at(&mut self, name: &str, at: u64, into: &mut [u8]) -> Result<(), Failed>
-        ensures bytes { OnOk result (ForSome untold_files (λ files. HasAt files name.now at into.new)) }
+        ensures bytes { OnOk result (ForSome untold_files
+            (λ files. HasAt files name.now at into.new)) }
         ensures taken { Takes self.old.taken self.new.taken (length into.old) result }
         ensures fault { HasCause 0 0 (IsErr result) }
         ensures same_misses { self.new.misses ≡ self.old.misses }
@@ -99,11 +105,14 @@ impl Files for SteadyFiles<'_> {
     fn fresh(&mut self, name: &str) -> Result<(), FreshFault>
         ensures made { OnOk result (Sets untold_files untold_files name.now []) }
         ensures unchanged { OnErr result (untold_files ≡ untold_files) }
-        ensures exists { ForSome untold_files (λ files. IsErrOf result FreshFault.Exists ↔ IsSome (files name.now)) }
+        ensures exists { ForSome untold_files (λ files. IsErrOf result FreshFault.Exists
+            ↔ IsSome (files name.now)) }
         ensures fault { HasCause 0 0 (IsErrOf result FreshFault.Failed) }
-        ensures missed { HasCause self.old.misses self.new.misses (IsErrOf result FreshFault.Exists) }
+        ensures missed { HasCause self.old.misses self.new.misses
+            (IsErrOf result FreshFault.Exists) }
         ensures same_taken { self.new.taken ≡ self.old.taken }
-        ensures answer { MatchOption (lent self.old name.now) (result ≡ Ok tt) (λ _. result ≡ Err FreshFault.Exists) }
+        ensures answer { MatchOption (lent self.old name.now) (result ≡ Ok tt) (λ _. result
+            ≡ Err FreshFault.Exists) }
         ensures lent { lent self.new ≡ lent self.old }
         ensures same_appended { appended_count self.new ≡ appended_count self.old }
     {
@@ -117,11 +126,13 @@ impl Files for SteadyFiles<'_> {
     /// Counts the bytes of the piece, and keeps none.
     fn append(&mut self, _name: &str, piece: &[u8]) -> Result<(), Failed>
         ensures grown { OnOk result (Extends untold_files untold_files _name.now piece.now) }
-        ensures cut { OnErr result ((n : ℕ) × Extends untold_files untold_files _name.now (take n piece.now)) }
+        ensures cut { OnErr result ((n : ℕ)
+            × Extends untold_files untold_files _name.now (take n piece.now)) }
         ensures fault { HasCause 0 0 (IsErr result) }
         ensures same_misses { self.new.misses ≡ self.old.misses }
         ensures same_taken { self.new.taken ≡ self.old.taken }
-        ensures counted { appended_count self.new ≡ raised (appended_count self.old) (length piece.now) }
+        ensures counted { appended_count self.new
+            ≡ raised (appended_count self.old) (length piece.now) }
         ensures lent { lent self.new ≡ lent self.old }
     {
         self.appended = self.appended.saturating_add(piece.len() as u64);

@@ -34,8 +34,10 @@ impl Input for SteadyInput<'_> {
     /// It gives as many bytes as there are and as fit.
     fn read(&mut self, into: &mut [u8]) -> Result<usize, Failed>
         ensures bound { IfOk result (λ n. n ≤ length into.new) }
-        ensures bytes { IfOk result (λ n. Consumes (Some (unread self.old)) (Some (unread self.new)) (take n into.new)) }
-        ensures ended { IfOk result (λ n. n ≡ 0 → 0 < length into.new → IsAtEnd (Some (unread self.new))) }
+        ensures bytes { IfOk result (λ n. Consumes (Some (unread self.old)) (Some (unread self.new))
+            (take n into.new)) }
+        ensures ended { IfOk result (λ n. n ≡ 0 → 0 < length into.new
+            → IsAtEnd (Some (unread self.new))) }
         ensures unchanged { OnErr result (Some (unread self.new) ≡ Some (unread self.old)) }
         ensures fault { HasCause 0 0 (IsErr result) }
         ensures count { result ≡ Ok (min (length into.old) (length (unread self.old))) }

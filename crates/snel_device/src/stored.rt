@@ -13,7 +13,8 @@ pub fn put_file(
     name: &str,
     bytes: &[u8],
 ) -> Result<(), AllocError>
-    ensures put { OnOk result (held_in files.new ≡ with_file name.now bytes.now (held_in files.old)) }
+    ensures put { OnOk result (held_in files.new
+        ≡ with_file name.now bytes.now (held_in files.old)) }
     ensures unchanged { OnErr result (held_in files.new ≡ held_in files.old) }
 {
     let key = String::from_str(alloc, name)?;
@@ -45,7 +46,8 @@ pub fn extend_file(
     piece: &[u8],
 ) -> Result<(), AllocError>
     requires { IsSome (held_in files.old name.now) }
-    ensures grown { OnOk result (held_in files.new ≡ with_piece name.now piece.now (held_in files.old)) }
+    ensures grown { OnOk result (held_in files.new
+        ≡ with_piece name.now piece.now (held_in files.old)) }
     ensures unchanged { OnErr result (held_in files.new ≡ held_in files.old) }
 {
     match files.get_mut(name) {

@@ -24,7 +24,8 @@ fn puts<E: Out>(err: &mut E, piece: &str) -> Result<(), Failed>
 
 // Words and a number.
 fn puts_number<E: Out>(err: &mut E, words: &str, number: u32) -> Result<(), Failed>
-    ensures line { OnOk result (Appends (E.holds err.old) (E.holds err.new) (numbered words.now number)) }
+    ensures line { OnOk result (Appends (E.holds err.old) (E.holds err.new)
+        (numbered words.now number)) }
     ensures failed { OnErr result (Rose (E.faults err.old) (E.faults err.new)) }
     ensures later { E.faults err.old ≤ E.faults err.new }
 {
@@ -35,7 +36,8 @@ fn puts_number<E: Out>(err: &mut E, words: &str, number: u32) -> Result<(), Fail
 
 // A place of a query.
 fn puts_place<E: Out>(err: &mut E, place: Place) -> Result<(), Failed>
-    ensures line { OnOk result (Appends (E.holds err.old) (E.holds err.new) (place_words (place_view place))) }
+    ensures line { OnOk result (Appends (E.holds err.old) (E.holds err.new)
+        (place_words (place_view place))) }
     ensures failed { OnErr result (Rose (E.faults err.old) (E.faults err.new)) }
     ensures later { E.faults err.old ≤ E.faults err.new }
 {
@@ -50,7 +52,8 @@ fn puts_place<E: Out>(err: &mut E, place: Place) -> Result<(), Failed>
 
 // A place of a query, and what is wrong there.
 fn puts_at<E: Out>(err: &mut E, place: Place, what: &str) -> Result<(), Failed>
-    ensures line { OnOk result (Appends (E.holds err.old) (E.holds err.new) (place_words (place_view place) ++ what.now)) }
+    ensures line { OnOk result (Appends (E.holds err.old) (E.holds err.new)
+        (place_words (place_view place) ++ what.now)) }
     ensures failed { OnErr result (Rose (E.faults err.old) (E.faults err.new)) }
     ensures later { E.faults err.old ≤ E.faults err.new }
 {
@@ -60,7 +63,8 @@ fn puts_at<E: Out>(err: &mut E, place: Place, what: &str) -> Result<(), Failed>
 
 // Words, a number, and more words.
 fn puts_numbered<E: Out>(err: &mut E, words: &str, number: u32, what: &str) -> Result<(), Failed>
-    ensures line { OnOk result (Appends (E.holds err.old) (E.holds err.new) (numbered words.now number ++ what.now)) }
+    ensures line { OnOk result (Appends (E.holds err.old) (E.holds err.new)
+        (numbered words.now number ++ what.now)) }
     ensures failed { OnErr result (Rose (E.faults err.old) (E.faults err.new)) }
     ensures later { E.faults err.old ≤ E.faults err.new }
 {
@@ -82,7 +86,8 @@ fn limit_word(limit: Limit) -> &'static str
 }
 
 fn puts_too_many<E: Out>(err: &mut E, limit: Limit) -> Result<(), Failed>
-    ensures line { OnOk result (Appends (E.holds err.old) (E.holds err.new) (codes "too many " ++ limit_words (limit_view limit))) }
+    ensures line { OnOk result (Appends (E.holds err.old) (E.holds err.new) (codes "too many "
+        ++ limit_words (limit_view limit))) }
     ensures failed { OnErr result (Rose (E.faults err.old) (E.faults err.new)) }
     ensures later { E.faults err.old ≤ E.faults err.new }
 {
@@ -92,7 +97,8 @@ fn puts_too_many<E: Out>(err: &mut E, limit: Limit) -> Result<(), Failed>
 
 // Why the text of a query isn't answered.
 fn puts_fault<E: Out>(err: &mut E, fault: TextFault) -> Result<(), Failed>
-    ensures line { OnOk result (Appends (E.holds err.old) (E.holds err.new) (refused_words (refused_view fault))) }
+    ensures line { OnOk result (Appends (E.holds err.old) (E.holds err.new)
+        (refused_words (refused_view fault))) }
     ensures failed { OnErr result (Rose (E.faults err.old) (E.faults err.new)) }
     ensures later { E.faults err.old ≤ E.faults err.new }
 {
@@ -116,7 +122,8 @@ fn puts_fault<E: Out>(err: &mut E, fault: TextFault) -> Result<(), Failed>
 }
 
 fn puts_query<E: Out>(err: &mut E, fault: TextFault) -> Result<(), Failed>
-    ensures line { OnOk result (Appends (E.holds err.old) (E.holds err.new) (query_line (refused_view fault))) }
+    ensures line { OnOk result (Appends (E.holds err.old) (E.holds err.new)
+        (query_line (refused_view fault))) }
     ensures failed { OnErr result (Rose (E.faults err.old) (E.faults err.new)) }
 {
     puts(err, "snel: query: ")?;
@@ -125,7 +132,8 @@ fn puts_query<E: Out>(err: &mut E, fault: TextFault) -> Result<(), Failed>
 }
 
 fn puts_about<E: Out>(err: &mut E, name: &str, what: &str) -> Result<(), Failed>
-    ensures line { OnOk result (Appends (E.holds err.old) (E.holds err.new) (codes "snel: " ++ name.now ++ what.now)) }
+    ensures line { OnOk result (Appends (E.holds err.old) (E.holds err.new) (codes "snel: "
+        ++ name.now ++ what.now)) }
     ensures failed { OnErr result (Rose (E.faults err.old) (E.faults err.new)) }
 {
     puts(err, "snel: ")?;
@@ -135,7 +143,8 @@ fn puts_about<E: Out>(err: &mut E, name: &str, what: &str) -> Result<(), Failed>
 
 // The line of what stands against a query.
 fn puts_refused<E: Out>(err: &mut E, fault: QueryFault, name: &str) -> Result<(), Failed>
-    ensures line { OnOk result (Appends (E.holds err.old) (E.holds err.new) (refusal_line (Refusal.Query fault) name.now)) }
+    ensures line { OnOk result (Appends (E.holds err.old) (E.holds err.new)
+        (refusal_line (Refusal.Query fault) name.now)) }
     ensures failed { OnErr result (Rose (E.faults err.old) (E.faults err.new)) }
 {
     match fault {
@@ -152,7 +161,8 @@ fn puts_refused<E: Out>(err: &mut E, fault: QueryFault, name: &str) -> Result<()
 /// Writes the line of a refusal, about the file of this name where it is about one.
 /// Where a put fails, the rest of the line isn't written.
 pub fn report<E: Out>(refusal: Refusal, name: &str, err: &mut E)
-    ensures { ¬ Rose (E.faults err.old) (E.faults err.new) → Appends (E.holds err.old) (E.holds err.new) (refusal_line refusal name.now) }
+    ensures { ¬ Rose (E.faults err.old) (E.faults err.new)
+        → Appends (E.holds err.old) (E.holds err.new) (refusal_line refusal name.now) }
 {
     let _ = match refusal {
         Refusal::Words => puts(err, "snel: words not understood\n"),

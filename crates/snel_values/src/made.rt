@@ -58,7 +58,8 @@ impl MadeRows {
 
     /// Takes the last row off.
     pub fn pop(&mut self) -> Option<MadeRow>
-        ensures { MatchOption result ((self.old ≡ []) × (self.new ≡ [])) (λ r. self.old ≡ self.new ++ row_view r ∷ []) }
+        ensures { MatchOption result ((self.old ≡ [])
+            × (self.new ≡ [])) (λ r. self.old ≡ self.new ++ row_view r ∷ []) }
     {
         self.all.pop()
     }

@@ -91,7 +91,8 @@ impl Pairs {
     /// The last name, which is the greatest: `push` takes the names above it, and any name where there is none.
     pub fn last_name(&self) -> Option<&str>
         ensures last { option_copied result ≡ last_name self.now }
-        ensures above { (name : List ℕ) → IfSome result (λ s. IsBelow s.now name) ↔ IsAboveLast name self.now }
+        ensures above { (name : List ℕ) → IfSome result (λ s. IsBelow s.now name)
+            ↔ IsAboveLast name self.now }
     {
         match self.all.last() {
             Some(pair) => Some(pair.name.as_str()),
@@ -128,7 +129,8 @@ impl Pairs {
 
     /// The value at a place, counted from 0.
     pub fn value_at(&self, at: usize) -> Option<&Value>
-        ensures { option_map (λ v. view v.now) result ≡ option_map (λ f. f.1) (slice_get self.now at) }
+        ensures { option_map (λ v. view v.now) result
+            ≡ option_map (λ f. f.1) (slice_get self.now at) }
     {
         match self.all.get(at) {
             Some(pair) => Some(&pair.value),

@@ -24,13 +24,18 @@ const LEAST_FILE_BYTES: u64 = 22;
 /// only where it is no block file. No file changes. What is Ok is within the limits of an index
 /// also where nothing is told.
 pub fn read_index<F: Files>(alloc: Global, files: &mut F, name: &str) -> Result<Index, IndexFault>
-    ensures file { IfOk result (λ index. Knows (F.told files.old) name.now (λ bytes. IsFile bytes index.field index.entries)) }
+    ensures file { IfOk result (λ index. Knows (F.told files.old) name.now
+        (λ bytes. IsFile bytes index.field index.entries)) }
     ensures index { IfOk result (λ index. IsSomeIndex index.field index.entries) }
-    ensures absent { ForSome (F.told files.old) (λ told. IsErrOf result IndexFault.Absent ↔ (told name.now ≡ None)) }
-    ensures no_file { IsErrOf result IndexFault.NotAFile → Knows (F.told files.old) name.now IsNoFile }
+    ensures absent { ForSome (F.told files.old) (λ told. IsErrOf result IndexFault.Absent
+        ↔ (told name.now ≡ None)) }
+    ensures no_file { IsErrOf result IndexFault.NotAFile
+        → Knows (F.told files.old) name.now IsNoFile }
 
-    ensures fault { HasCause (F.read_faults files.old) (F.read_faults files.new) (IsErrOf result IndexFault.Failed) }
-    ensures missed { HasCause (F.misses files.old) (F.misses files.new) (IsErrOf result IndexFault.Absent) }
+    ensures fault { HasCause (F.read_faults files.old) (F.read_faults files.new)
+        (IsErrOf result IndexFault.Failed) }
+    ensures missed { HasCause (F.misses files.old) (F.misses files.new)
+        (IsErrOf result IndexFault.Absent) }
     ensures cost { Costs (F.told files.old) name.now (F.taken files.old) (F.taken files.new) }
     ensures told { F.told files.new ≡ F.told files.old }
     ensures same_write_faults { F.write_faults files.new ≡ F.write_faults files.old }
@@ -51,12 +56,15 @@ fn read_sized<F: Files>(
     size: u64,
 ) -> Result<Index, IndexFault>
     requires { Knows (F.told files.old) name.now (λ bytes. size ≡ length bytes) }
-    ensures file { IfOk result (λ index. Knows (F.told files.old) name.now (λ bytes. IsFile bytes index.field index.entries)) }
+    ensures file { IfOk result (λ index. Knows (F.told files.old) name.now
+        (λ bytes. IsFile bytes index.field index.entries)) }
     ensures index { IfOk result (λ index. IsSomeIndex index.field index.entries) }
     ensures not_absent { result ≢ Err IndexFault.Absent }
-    ensures no_file { IsErrOf result IndexFault.NotAFile → Knows (F.told files.old) name.now IsNoFile }
+    ensures no_file { IsErrOf result IndexFault.NotAFile
+        → Knows (F.told files.old) name.now IsNoFile }
 
-    ensures fault { HasCause (F.read_faults files.old) (F.read_faults files.new) (IsErrOf result IndexFault.Failed) }
+    ensures fault { HasCause (F.read_faults files.old) (F.read_faults files.new)
+        (IsErrOf result IndexFault.Failed) }
     ensures cost { Costs (F.told files.old) name.now (F.taken files.old) (F.taken files.new) }
     ensures told { F.told files.new ≡ F.told files.old }
     ensures same_misses { F.misses files.new ≡ F.misses files.old }
@@ -81,7 +89,8 @@ fn read_sized<F: Files>(
 // The tail of a file, which stands at `at`.
 fn read_tail<F: Files>(files: &mut F, name: &str, at: u64) -> Result<[u8; 12], Failed>
     requires { Knows (F.told files.old) name.now (λ bytes. at + 12 ≡ length bytes) }
-    ensures tail { IfOk result (λ tail. Knows (F.told files.old) name.now (λ bytes. tail ≡ drop at bytes)) }
+    ensures tail { IfOk result (λ tail. Knows (F.told files.old) name.now (λ bytes. tail
+        ≡ drop at bytes)) }
     ensures fault { HasCause (F.read_faults files.old) (F.read_faults files.new) (IsErr result) }
     ensures later { F.taken files.old ≤ F.taken files.new }
     ensures most { F.taken files.new ≤ F.taken files.old + 12 }
@@ -103,11 +112,13 @@ fn read_part<F: Files>(
     count: usize,
 ) -> Result<Vec<u8>, IndexFault>
     requires { ForSome (F.told files.old) (λ told. IsWithin told name.now at count) }
-    ensures part { IfOk result (λ part. ForSome (F.told files.old) (λ told. HasAt told name.now at part.items)) }
+    ensures part { IfOk result (λ part. ForSome (F.told files.old)
+        (λ told. HasAt told name.now at part.items)) }
     ensures count { IfOk result (λ part. length part.items ≡ count) }
     ensures not_absent { result ≢ Err IndexFault.Absent }
     ensures not_no_file { result ≢ Err IndexFault.NotAFile }
-    ensures fault { HasCause (F.read_faults files.old) (F.read_faults files.new) (IsErrOf result IndexFault.Failed) }
+    ensures fault { HasCause (F.read_faults files.old) (F.read_faults files.new)
+        (IsErrOf result IndexFault.Failed) }
     ensures later { F.taken files.old ≤ F.taken files.new }
     ensures most { F.taken files.new ≤ F.taken files.old + count }
     ensures told { F.told files.new ≡ F.told files.old }

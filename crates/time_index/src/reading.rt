@@ -76,7 +76,8 @@ fn named_at(
     count: usize,
     to: u64,
 ) -> Result<Option<Index>, OutOfMemory>
-    ensures { IfOk result (λ index. option_map (λ i. (i.field, i.entries)) index ≡ named_at to size count bytes.now) }
+    ensures { IfOk result (λ index. option_map (λ i. (i.field, i.entries)) index
+        ≡ named_at to size count bytes.now) }
 {
     if size > MOST_NAME_BYTES || count > MOST_BLOCKS || bytes.len() != 10 + size + 32 * count {
         return Ok(None);
@@ -94,8 +95,10 @@ fn named_at(
 // The index that the bytes are, of blocks up to `to`. `None` where they are none.
 pub(crate) fn index_in(alloc: Global, bytes: &[u8], to: u64) -> Result<Option<Index>, OutOfMemory>
     requires { LEAST_INDEX_BYTES ≤ length bytes.now }
-    ensures read { IfOk result (λ index. option_map (λ i. (i.field, i.entries)) index ≡ index_in to bytes.now) }
-    ensures spelled { IfOk result (λ index. IfSome index (λ i. SpellsIndex bytes.now i.field i.entries to)) }
+    ensures read { IfOk result (λ index. option_map (λ i. (i.field, i.entries)) index
+        ≡ index_in to bytes.now) }
+    ensures spelled { IfOk result (λ index. IfSome index
+        (λ i. SpellsIndex bytes.now i.field i.entries to)) }
 {
     if !has_magic(bytes, 0) {
         return Ok(None);

@@ -15,7 +15,8 @@ fn digit(number: u32) -> u8
 
 /// The date and the clock time to the second.
 fn date_and_second(clock: Clock) -> [u8; 19]
-    ensures { result ≡ to_second clock.year clock.month clock.day (clock.second / 3600) (clock.second / 60 % 60) (clock.second % 60) }
+    ensures { result ≡ to_second clock.year clock.month clock.day (clock.second / 3600)
+        (clock.second / 60 % 60) (clock.second % 60) }
 {
     let year = u32::from(clock.year);
     let month = u32::from(clock.month);

@@ -115,7 +115,8 @@ fn behind_date(bytes: &[u8]) -> Option<&[u8]>
 fn digits_at(bytes: &[u8], count: u32, so_far: u64) -> Option<(u32, u64, &[u8])>
     requires few { count ≤ 9 }
     requires small { so_far < 10 ^ count }
-    ensures value { option_map (λ x. (x.0, x.1, x.2.now)) result ≡ if_few (spec.digits_at bytes.now count so_far) }
+    ensures value { option_map (λ x. (x.0, x.1, x.2.now)) result
+        ≡ if_few (spec.digits_at bytes.now count so_far) }
     ensures few { IfSome result (λ x. x.0 ≤ 9) }
     ensures small { IfSome result (λ x. x.1 < 10 ^ x.0) }
 {

@@ -29,7 +29,8 @@ pub fn lists_compare_by_items()
 
 /// Structs compare as slices of pairs, the name before the value.
 pub fn structs_compare_by_pairs()
-    ensures { (a b : Pairs) → val_cmp (struct (fields a)) (struct (fields b)) ≡ slice_cmp pair_cmp a b }
+    ensures { (a b : Pairs) → val_cmp (struct (fields a)) (struct (fields b))
+        ≡ slice_cmp pair_cmp a b }
 {}
 
 /// A list is sound exactly where each item is.
@@ -39,7 +40,8 @@ pub fn lists_are_sound_by_items()
 
 /// A struct is sound exactly where its names rise, each name is UTF-8, and each value is sound.
 pub fn structs_are_sound_by_pairs()
-    ensures { (fs : Pairs) → IsSound (struct (fields fs)) ↔ (NamesRise fs × All (λ f. IsUtf8 f.0 × IsSound f.1) fs) }
+    ensures { (fs : Pairs) → IsSound (struct (fields fs))
+        ↔ (NamesRise fs × All (λ f. IsUtf8 f.0 × IsSound f.1) fs) }
 {}
 
 /// The chains within a value and lists are each other.
