@@ -60,8 +60,9 @@ impl MemFiles {
 
     // Counts a failed write.
     fn fail_write(&mut self) -> Failed
-        ensures counted { self.new ≡ record self.old { write_faults = raised self.old.write_faults 1
-            } }
+        ensures counted { self.new ≡ record self.old {
+          write_faults = raised self.old.write_faults 1;
+        } }
         ensures later { self.old.write_faults ≤ self.new.write_faults }
     {
         self.write_faults = self.write_faults.saturating_add(1);

@@ -170,10 +170,7 @@ static REFUSED: [(&str, &str); 12] = [
         "SELECT COUNT(*) AS n FROM t",
         "snel: query: not built yet\n",
     ),
-    (
-        "SELECT * FROM t ORDER BY a",
-        "snel: query: not built yet\n",
-    ),
+    ("SELECT * FROM t ORDER BY a", "snel: query: not built yet\n"),
     ("SELECT * FROM t LIMIT 1", "snel: query: not built yet\n"),
 ];
 
