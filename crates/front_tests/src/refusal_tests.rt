@@ -198,12 +198,16 @@ fn long_texts_are_accepted_or_say_why_not(rt: HostRuntime) {
 }
 
 // Accepted queries, and whether queries of their form are built.
-static FORMS: [(&str, bool); 5] = [
-    ("SELECT a + 1 FROM t", false),
-    ("SELECT a = 1 AS x FROM logs", false),
-    ("SELECT * FROM t LIMIT 1", false),
-    ("SELECT * FROM t WHERE a LIMIT 1", false),
+static FORMS: [(&str, bool); 9] = [
+    ("SELECT a + 1 FROM t", true),
+    ("SELECT a = 1 AS x FROM logs OFFSET 0", true),
     ("SELECT * FROM t WHERE a", true),
+    ("SELECT * FROM t LIMIT 1", false),
+    ("SELECT * FROM t WHERE a OFFSET 1", false),
+    ("SELECT * FROM t ORDER BY a", false),
+    ("SELECT a FROM t GROUP BY a", false),
+    ("SELECT 1 + COUNT(*) FROM t", false),
+    ("SELECT 1 FROM t HAVING TRUE", false),
 ];
 
 #[test]
