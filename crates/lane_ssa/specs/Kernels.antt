@@ -23,6 +23,7 @@ has_kernel (instr.const m v) = true
 has_kernel (instr.not m a) = true
 has_kernel (instr.is m w a) = true
 has_kernel (instr.bin m o a b) = has_operator o
+has_kernel (instr.first m a b) = true
 has_kernel (instr.merge m p a b) = true
 has_kernel x = false
 

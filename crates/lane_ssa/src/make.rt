@@ -17,7 +17,7 @@ use crate::instr::Instr;
 use crate::literal::look_of;
 use crate::path::{field16, place16};
 use ion_symtab::SymTab;
-use lane_base::{LaneMask, Lanes, and16, const16, is16, keep16, merge16, not16, or16, true16};
+use lane_base::{LaneMask, Lanes, and16, const16, first16, is16, keep16, merge16, not16, or16, true16};
 use tree_meaning::BinOp;
 
 /// Makes the register of one instruction. `symbol` is the number of its name.
@@ -95,6 +95,22 @@ pub(crate) fn make<'b>(
             );
             put_value(values, made);
         }
+        Instr::First { mask, a, b } => {
+            let made = first16(
+                &values[*a as usize],
+                &values[*b as usize],
+                masks[*mask as usize],
+            );
+            put_value(values, made);
+        }
+        Instr::Neg { .. } => unreachable!(),
+        Instr::Match { .. } => unreachable!(),
+        Instr::Cast { .. } => unreachable!(),
+        Instr::Length { .. } => unreachable!(),
+        Instr::Unix { .. } => unreachable!(),
+        Instr::Trunc { .. } => unreachable!(),
+        Instr::Extract { .. } => unreachable!(),
+        Instr::Shift { .. } => unreachable!(),
     }
 }
 

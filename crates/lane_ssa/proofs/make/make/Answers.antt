@@ -1,7 +1,7 @@
 use Rattle.std.proofs.lemmas.List.Elements.{All-push}
 use Rattle.lane_base.specs.Registers.{AreLegal}
 use Rattle.tree_meaning.specs.Tree.{name, at}
-use Rattle.eval_meaning.specs.Logic.{not_of, is_of}
+use Rattle.eval_meaning.specs.Logic.{not_of, is_of, first_of}
 use Rattle.eval_meaning.specs.Paths.{step_of}
 use Rattle.eval_meaning.specs.Evaluation.{binary}
 use Rattle.lane_ssa.proofs.OneMade.{mask_read, value_read, value_put, legal_read, legal_within, of_one, of_two, of_pick}
@@ -119,3 +119,30 @@ returns-in-Merge-clause-legal c =
     (c.merge16-made.ensures.legal table
     (legal_within table _ _ (legal_read table vs c.in-Merge.a _ c.index-in-Merge.ensures names.2 c.requires.legal))
     (legal_within table _ _ (legal_read table vs c.in-Merge.b _ c.index-in-Merge-2.ensures names.3 c.requires.legal))))
+
+pub returns-in-First-clause-state : goal.returns-in-First-clause-state
+returns-in-First-clause-state c i h =
+    let table = c.args.table.now in
+    let ms = c.args.masks.now.items in
+    let vs = c.args.values.now.items in
+    let names = rw c.in-First.is at c.requires.names in
+    rw (c.in-First.is, c.put_value-in-First.ensures.items)
+    (value_put table ms vs i c.first16-made.result _
+    (of_two first_of
+    (c.first16-made.ensures.value table
+    (legal_within table _ _ (legal_read table vs c.in-First.a _ c.index-in-First.ensures names.1 c.requires.legal))
+    (legal_within table _ _ (legal_read table vs c.in-First.b _ c.index-in-First-2.ensures names.2 c.requires.legal)) i h)
+    (mask_read table ms vs i c.in-First.mask _ c.index-in-First-3.ensures names.0)
+    (value_read table ms vs i c.in-First.a _ c.index-in-First.ensures names.1)
+    (value_read table ms vs i c.in-First.b _ c.index-in-First-2.ensures names.2)))
+
+pub returns-in-First-clause-legal : goal.returns-in-First-clause-legal
+returns-in-First-clause-legal c =
+    let table = c.args.table.now in
+    let vs = c.args.values.now.items in
+    let names = rw c.in-First.is at c.requires.names in
+    rw c.put_value-in-First.ensures.items
+    (All-push (AreLegal table) vs c.first16-made.result c.requires.legal
+    (c.first16-made.ensures.legal table
+    (legal_within table _ _ (legal_read table vs c.in-First.a _ c.index-in-First.ensures names.1 c.requires.legal))
+    (legal_within table _ _ (legal_read table vs c.in-First.b _ c.index-in-First-2.ensures names.2 c.requires.legal))))
