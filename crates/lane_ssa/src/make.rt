@@ -17,7 +17,9 @@ use crate::instr::Instr;
 use crate::literal::look_of;
 use crate::path::{field16, place16};
 use ion_symtab::SymTab;
-use lane_base::{LaneMask, Lanes, and16, const16, first16, is16, keep16, merge16, not16, or16, true16};
+use lane_base::{
+    LaneMask, Lanes, and16, const16, first16, is16, keep16, merge16, not16, or16, true16,
+};
 use tree_meaning::BinOp;
 
 /// Makes the register of one instruction. `symbol` is the number of its name.
