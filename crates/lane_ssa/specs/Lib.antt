@@ -9,3 +9,4 @@ pub mod Frames
 pub mod Bound
 pub mod ChunksOf
 pub mod Making
+pub mod Operands
