@@ -14,6 +14,7 @@ use Rattle.lane_base.specs.Bits.{has}
 use Rattle.lane_base.specs.Shown.{IsLegal}
 use Rattle.lane_base.specs.Registers.{under, truth_as, shown, value_at, number_at, span_at}
 use Rattle.lane_compare.specs.Operands.{is_null_of_two}
+use Rattle.lane_compare.proofs.StrictLanes.{strict, truth_as-strict}
 use Rattle.lane_compare.proofs.Reading.{reads, Reads, gone, unknown, holds, fails, number, moment, string, items, fields}
 
 or_false : (b : Bool) → (b || false) ≡ b
@@ -63,19 +64,6 @@ both_false : (op : BinOp) (both met : Bool) (v w : Val) → cond both (truth met
 both_false op false met v w e h = refl
 both_false op true met v w e h = let n = e ∙ ap (compared op) (order_missing v w h) in cc
 
--- an operator of two operands in a lane of the mask, by the tests of the lane
-strict : (p q n both met : Bool) (r : Val) → n ≡ (not p && q) → (p ≡ true → both ≡ false) → (n ≡ false → cond both (truth met) missing ≡ r)
-    → truth_as n ((both && not n) && met) ((both && not n) && not ((both && not n) && met)) ≡ (if p then missing else (if q then null else r))
-strict true q n both met r e f g = rw (e, f refl) refl
-strict false true n both met r e f g = rw e refl
-strict false false n true true r e f g = rw e (g e)
-strict false false n true false r e f g = rw e (g e)
-strict false false n false met r e f g = rw e (g e)
-
-and_false : (b : Bool) → (b && false) ≡ false
-and_false true = refl
-and_false false = refl
-
 module _ (op : BinOp) (table : Table) (a b : Lanes) (i : ℕ) where
   abbrev v : Val
   v = value_at table a i
@@ -98,8 +86,10 @@ module _ (op : BinOp) (table : Table) (a b : Lanes) (i : ℕ) where
       → nm ≡ meets op (int_cmp (number_at a.nums.lanes i) (number_at b.nums.lanes i))
       → xm ≡ (((m && not n) && (has a.text.0 i && has b.text.0 i)) && meets op (slice_cmp nat_cmp (span_at a.spans.lanes i) (span_at b.spans.lanes i)))
       → truth_as n ((both && (m && not n)) && met tm nm xm) ((both && (m && not n)) && not ((both && (m && not n)) && met tm nm xm)) ≡ under m (compare op v w)
-  compare_value true n tm nm xm p q e f g h =
-      let lane = compared_lane op (reads table a i (p refl)) (reads table b i (q refl)) in
-      strict (is_missing v || is_missing w) (is_null v || is_null w) n both (met tm nm xm) (compared op (order_of v w)) e (both_false op both _ v w lane)
-      (λ k. rw (f, g, h, k) lane)
-  compare_value false n tm nm xm p q e f g h = rw (e, and_false both) refl
+  compare_value m n tm nm xm p q e f g h =
+      let lane : (m ≡ true) → cond both (truth (met (meets op (bool_cmp (has a.yes.0 i) (has b.yes.0 i))) (meets op (int_cmp (number_at a.nums.lanes i) (number_at b.nums.lanes i))) ((has a.text.0 i && has b.text.0 i) && meets op (slice_cmp nat_cmp (span_at a.spans.lanes i) (span_at b.spans.lanes i))))) missing ≡ compared op (order_of v w) =
+          λ t. compared_lane op (reads table a i (p t)) (reads table b i (q t)) in
+      truth_as-strict n (both && (m && not n)) (met tm nm xm)
+      ∙ strict (λ c d. compared op (order_of c d)) v w m n both (truth (met tm nm xm)) e
+      (λ t. both_false op both _ v w (lane t))
+      (λ t k. rw (f, g, h, t, k) (lane t))
