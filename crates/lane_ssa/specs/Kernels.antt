@@ -7,6 +7,12 @@ use Rattle.program_meaning.specs.Instructions as instr
 
 -- the operators of two values that have a kernel
 abbrev pub has_operator : BinOp → Bool
+has_operator op.Eq = true
+has_operator op.Ne = true
+has_operator op.Lt = true
+has_operator op.Le = true
+has_operator op.Gt = true
+has_operator op.Ge = true
 has_operator op.And = true
 has_operator op.Or = true
 has_operator o = false

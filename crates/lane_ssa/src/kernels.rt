@@ -11,6 +11,7 @@ ghost use Rattle.lane_ssa.specs.Views.{instr_view};
 
 use crate::instr::Instr;
 use lane_base::{LaneMask, Lanes, and16, first16, is16, not16, or16};
+use lane_compare::compare16;
 use tree_meaning::BinOp;
 
 /// What an instruction that is a function of one value makes of it, in the lanes of `m`.
@@ -59,6 +60,9 @@ fn bin16<'b>(op: BinOp, a: &Lanes<'b>, b: &Lanes<'b>, m: LaneMask) -> Lanes<'b>
     match op {
         BinOp::And => and16(a, b, m),
         BinOp::Or => or16(a, b, m),
+        BinOp::Eq | BinOp::Ne | BinOp::Lt | BinOp::Le | BinOp::Gt | BinOp::Ge => {
+            compare16(op, a, b, m)
+        }
         _ => unreachable!(),
     }
 }
