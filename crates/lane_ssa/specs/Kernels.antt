@@ -31,6 +31,8 @@ has_kernel (instr.is m w a) = true
 has_kernel (instr.bin m o a b) = has_operator o
 has_kernel (instr.first m a b) = true
 has_kernel (instr.merge m p a b) = true
+has_kernel (instr.matching m h a s) = true
+has_kernel (instr.length m f a) = true
 has_kernel x = false
 
 -- each instruction has one

@@ -7,6 +7,7 @@ pub mod Built
 pub mod Counts
 pub mod Frames
 pub mod Bound
+pub mod Compiled
 pub mod ChunksOf
 pub mod Making
 pub mod Operands

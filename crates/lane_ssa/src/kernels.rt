@@ -5,6 +5,7 @@ ghost use Rattle.block_meaning.specs.Tables.{Table};
 ghost use Rattle.eval_meaning.specs.Evaluation.{binary};
 ghost use Rattle.lane_base.specs.Bits.{has};
 ghost use Rattle.lane_base.specs.Registers.{value_at, under, AreLegal};
+ghost use Rattle.lane_ssa.specs.Compiled.{pattern_of};
 ghost use Rattle.lane_ssa.specs.Kernels.{has_kernel, has_operator};
 ghost use Rattle.lane_ssa.specs.Operands.{takes_one, one_of, takes_two, two_of, NamesItsPart};
 ghost use Rattle.lane_ssa.specs.Views.{instr_view};
@@ -12,12 +13,19 @@ ghost use Rattle.lane_ssa.specs.Views.{instr_view};
 use crate::instr::Instr;
 use lane_base::{LaneMask, Lanes, and16, first16, is16, not16, or16};
 use lane_compare::compare16;
+use lane_text::{Pattern, length16, match16};
 use tree_meaning::BinOp;
 
-/// What an instruction that is a function of one value makes of it, in the lanes of `m`.
+/// What an instruction that is a function of one value makes of it, in the lanes of `m`. `pattern` is its pattern.
 #[inline(always)]
-pub(crate) fn one16<'b>(instr: &Instr, a: &Lanes<'b>, m: LaneMask) -> Lanes<'b>
+pub(crate) fn one16<'b>(
+    instr: &Instr,
+    pattern: &Option<Pattern>,
+    a: &Lanes<'b>,
+    m: LaneMask,
+) -> Lanes<'b>
     requires one { takes_one (instr_view instr.now) ≡ true }
+    requires pattern { pattern.now ≡ pattern_of (instr_view instr.now) }
     requires part { NamesItsPart (instr_view instr.now) }
     requires kernel { has_kernel (instr_view instr.now) ≡ true }
     ensures value { (table : Table) → AreLegal table a.now → (i : ℕ) → i < 16
@@ -27,6 +35,11 @@ pub(crate) fn one16<'b>(instr: &Instr, a: &Lanes<'b>, m: LaneMask) -> Lanes<'b>
     match instr {
         Instr::Not { .. } => not16(a, m),
         Instr::Is { what, .. } => is16(*what, a, m),
+        Instr::Match { .. } => match pattern {
+            Some(pattern) => match16(pattern, a, m),
+            None => unreachable!(),
+        },
+        Instr::Length { .. } => length16(a, m),
         _ => unreachable!(),
     }
 }

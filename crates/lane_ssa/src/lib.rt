@@ -6,6 +6,7 @@
 #![tactic(auto)]
 
 mod bind;
+mod compile;
 mod ends;
 mod frame;
 mod instr;

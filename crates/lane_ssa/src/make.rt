@@ -9,6 +9,7 @@ ghost use Rattle.lane_base.specs.Bits.{has};
 ghost use Rattle.lane_base.specs.Registers.{value_at, AreLegal};
 ghost use Rattle.lane_base.specs.declared.lanes.Lanes.{Lanes as LanesValue};
 ghost use Rattle.lane_ssa.specs.Bound.{IsSymbolOf};
+ghost use Rattle.lane_ssa.specs.Compiled.{pattern_of};
 ghost use Rattle.lane_ssa.specs.Frames.{registers_at};
 ghost use Rattle.lane_ssa.specs.Kernels.{has_kernel};
 ghost use Rattle.lane_ssa.specs.Making.{lane_at, IsReadable};
@@ -22,12 +23,14 @@ use crate::operands::{mask_of, operand_of, second_of};
 use crate::path::{field16, place16};
 use ion_symtab::SymTab;
 use lane_base::{LaneMask, Lanes, const16, keep16, merge16, true16};
+use lane_text::Pattern;
 
-/// Makes the register of one instruction. `symbol` is the number of its name.
+/// Makes the register of one instruction. `symbol` is the number of its name, `pattern` its pattern.
 #[inline(always)]
 pub(crate) fn make<'b>(
     instr: &'b Instr,
     symbol: Option<u32>,
+    pattern: &Option<Pattern>,
     table: &SymTab<'b>,
     live: LaneMask,
     rows: &Lanes<'b>,
@@ -37,6 +40,7 @@ pub(crate) fn make<'b>(
     requires names { IsInstruction (length masks.old.items) (length values.old.items) (instr_view instr.now) }
     requires kernel { has_kernel (instr_view instr.now) ≡ true }
     requires symbol { IsSymbolOf table.now (instr_view instr.now) symbol }
+    requires pattern { pattern.now ≡ pattern_of (instr_view instr.now) }
     requires readable { IsReadable table.now }
     requires rows { AreLegal table.now rows.now }
     requires legal { All (AreLegal table.now) values.old.items }
@@ -57,6 +61,7 @@ pub(crate) fn make<'b>(
             let made = value16(
                 instr,
                 symbol,
+                pattern,
                 table,
                 rows,
                 masks.as_slice(),
@@ -83,11 +88,12 @@ fn mask16(instr: &Instr, live: LaneMask, masks: &[LaneMask], values: &[Lanes<'_>
     }
 }
 
-/// The value that an instruction makes. `symbol` is the number of its name.
+/// The value that an instruction makes. `symbol` is the number of its name, `pattern` its pattern.
 #[inline(always)]
 fn value16<'b>(
     instr: &'b Instr,
     symbol: Option<u32>,
+    pattern: &Option<Pattern>,
     table: &SymTab<'b>,
     rows: &Lanes<'b>,
     masks: &[LaneMask],
@@ -97,6 +103,7 @@ fn value16<'b>(
     requires value { makes_mask (instr_view instr.now) ≡ false }
     requires kernel { has_kernel (instr_view instr.now) ≡ true }
     requires symbol { IsSymbolOf table.now (instr_view instr.now) symbol }
+    requires pattern { pattern.now ≡ pattern_of (instr_view instr.now) }
     requires readable { IsReadable table.now }
     requires rows { AreLegal table.now rows.now }
     requires legal { All (AreLegal table.now) values.now }
@@ -122,7 +129,7 @@ fn value16<'b>(
             &values[second_of(instr) as usize],
             m,
         ),
-        _ => one16(instr, &values[operand_of(instr) as usize], m),
+        _ => one16(instr, pattern, &values[operand_of(instr) as usize], m),
     }
 }
 

@@ -6,7 +6,7 @@ use Rattle.program_meaning.specs.Instructions as instr
 use Rattle.lane_ssa.specs.Kernels.{has_kernel}
 use Rattle.lane_ssa.specs.Making.{lane_at}
 use Rattle.lane_ssa.specs.Views.{instr_view}
-use Rattle.lane_ssa.proofs.LaneRegisters.{viewed_at, is_next, run_next}
+use Rattle.lane_ssa.proofs.LaneRegisters.{viewed_at, pattern_at, is_next, run_next}
 use Rattle.lane_ssa.proofs.run.run.Goals as goal
 
 pub make-requires-clause-names : goal.make-requires-clause-names
@@ -44,3 +44,7 @@ make-requires-clause-kernel c =
     let here = viewed_at c.args.instrs.now c.loop-k.k _ c.index-instrs-k.is (omega arith) in
     subst (λ x. has_kernel x ≡ true) here
     (All-get_or (λ x. has_kernel x ≡ true) (map instr_view c.args.instrs.now) c.loop-k.k instr.all within c.requires.kernels)
+
+pub make-requires-clause-pattern : goal.make-requires-clause-pattern
+make-requires-clause-pattern c =
+    pattern_at c.args.instrs.now c.args.patterns.now c.loop-k.k _ _ c.requires.compiled c.index-instrs-k.is c.index-patterns-k.is (omega arith)
