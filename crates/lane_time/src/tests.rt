@@ -1,0 +1,1 @@
+use crate::{extract16, shift16, trunc16, unix16};
