@@ -1,5 +1,5 @@
 -- The pattern of an instruction that matches texts.
-use Rattle.std.specs.Prelude.{ℕ, List, map, Option, None, Some}
+use Rattle.std.specs.Prelude.{List, map, Option, None, Some}
 use Rattle.lane_text.specs.PatternValue.{PatternValue}
 use Rattle.program_meaning.specs.Instructions.{Instr}
 use Rattle.program_meaning.specs.Instructions as instr

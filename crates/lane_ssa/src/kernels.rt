@@ -6,14 +6,16 @@ ghost use Rattle.eval_meaning.specs.Evaluation.{binary};
 ghost use Rattle.lane_base.specs.Bits.{has};
 ghost use Rattle.lane_base.specs.Registers.{value_at, under, AreLegal};
 ghost use Rattle.lane_ssa.specs.Compiled.{pattern_of};
-ghost use Rattle.lane_ssa.specs.Kernels.{has_kernel, has_operator};
+ghost use Rattle.lane_ssa.specs.Kernels.{has_kernel};
 ghost use Rattle.lane_ssa.specs.Operands.{takes_one, one_of, takes_two, two_of, NamesItsPart};
 ghost use Rattle.lane_ssa.specs.Views.{instr_view};
 
 use crate::instr::Instr;
 use lane_base::{LaneMask, Lanes, and16, first16, is16, not16, or16};
+use lane_cast::{math16, neg16};
 use lane_compare::compare16;
 use lane_text::{Pattern, length16, match16};
+use lane_time::{extract16, shift16, trunc16, unix16};
 use tree_meaning::BinOp;
 
 /// What an instruction that is a function of one value makes of it, in the lanes of `m`. `pattern` is its pattern.
@@ -33,6 +35,7 @@ pub(crate) fn one16<'b>(
     ensures legal { (table : Table) → AreLegal table a.now → AreLegal table result }
 {
     match instr {
+        Instr::Neg { .. } => neg16(a, m),
         Instr::Not { .. } => not16(a, m),
         Instr::Is { what, .. } => is16(*what, a, m),
         Instr::Match { .. } => match pattern {
@@ -40,6 +43,9 @@ pub(crate) fn one16<'b>(
             None => unreachable!(),
         },
         Instr::Length { .. } => length16(a, m),
+        Instr::Unix { name, .. } => unix16(*name, a, m),
+        Instr::Trunc { part, .. } => trunc16(*part, a, m),
+        Instr::Extract { part, .. } => extract16(*part, a, m),
         _ => unreachable!(),
     }
 }
@@ -58,6 +64,7 @@ pub(crate) fn two16<'b>(instr: &Instr, a: &Lanes<'b>, b: &Lanes<'b>, m: LaneMask
     match instr {
         Instr::Bin { op, .. } => bin16(*op, a, b, m),
         Instr::First { .. } => first16(a, b, m),
+        Instr::Shift { part, .. } => shift16(*part, a, b, m),
         _ => unreachable!(),
     }
 }
@@ -65,17 +72,16 @@ pub(crate) fn two16<'b>(instr: &Instr, a: &Lanes<'b>, b: &Lanes<'b>, m: LaneMask
 /// What an operator gives of two values, in the lanes of `m`.
 #[inline(always)]
 fn bin16<'b>(op: BinOp, a: &Lanes<'b>, b: &Lanes<'b>, m: LaneMask) -> Lanes<'b>
-    requires { has_operator op ≡ true }
     ensures value { (table : Table) → AreLegal table a.now → AreLegal table b.now → (i : ℕ) → i < 16
         → value_at table result i ≡ under (has m.0 i) (binary op (value_at table a.now i) (value_at table b.now i)) }
     ensures legal { (table : Table) → AreLegal table result }
 {
     match op {
-        BinOp::And => and16(a, b, m),
-        BinOp::Or => or16(a, b, m),
+        BinOp::Add | BinOp::Sub | BinOp::Mul | BinOp::Div | BinOp::Rem => math16(op, a, b, m),
         BinOp::Eq | BinOp::Ne | BinOp::Lt | BinOp::Le | BinOp::Gt | BinOp::Ge => {
             compare16(op, a, b, m)
         }
-        _ => unreachable!(),
+        BinOp::And => and16(a, b, m),
+        BinOp::Or => or16(a, b, m),
     }
 }
