@@ -4,9 +4,12 @@
 //! No kernel takes memory, and none can refuse.
 #![tactic(auto)]
 
+mod cast;
 mod math;
 mod numbers;
+mod spelled;
 #[cfg(test)]
 mod tests;
 
+pub use cast::cast16;
 pub use math::{math16, neg16};
