@@ -2,7 +2,6 @@ pub mod Views
 pub mod EndParts
 pub mod JobViews
 pub mod CodedJob
-pub mod Kernels
 pub mod Built
 pub mod Counts
 pub mod Frames

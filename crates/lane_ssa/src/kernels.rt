@@ -6,13 +6,12 @@ ghost use Rattle.eval_meaning.specs.Evaluation.{binary};
 ghost use Rattle.lane_base.specs.Bits.{has};
 ghost use Rattle.lane_base.specs.Registers.{value_at, under, AreLegal};
 ghost use Rattle.lane_ssa.specs.Compiled.{pattern_of};
-ghost use Rattle.lane_ssa.specs.Kernels.{has_kernel};
 ghost use Rattle.lane_ssa.specs.Operands.{takes_one, one_of, takes_two, two_of, NamesItsPart};
 ghost use Rattle.lane_ssa.specs.Views.{instr_view};
 
 use crate::instr::Instr;
 use lane_base::{LaneMask, Lanes, and16, first16, is16, not16, or16};
-use lane_cast::{math16, neg16};
+use lane_cast::{cast16, math16, neg16};
 use lane_compare::compare16;
 use lane_text::{Pattern, length16, match16};
 use lane_time::{extract16, shift16, trunc16, unix16};
@@ -29,7 +28,6 @@ pub(crate) fn one16<'b>(
     requires one { takes_one (instr_view instr.now) ≡ true }
     requires pattern { pattern.now ≡ pattern_of (instr_view instr.now) }
     requires part { NamesItsPart (instr_view instr.now) }
-    requires kernel { has_kernel (instr_view instr.now) ≡ true }
     ensures value { (table : Table) → AreLegal table a.now → (i : ℕ) → i < 16
         → value_at table result i ≡ under (has m.0 i) (one_of (instr_view instr.now) (value_at table a.now i)) }
     ensures legal { (table : Table) → AreLegal table a.now → AreLegal table result }
@@ -42,6 +40,7 @@ pub(crate) fn one16<'b>(
             Some(pattern) => match16(pattern, a, m),
             None => unreachable!(),
         },
+        Instr::Cast { to, .. } => cast16(*to, a, m),
         Instr::Length { .. } => length16(a, m),
         Instr::Unix { name, .. } => unix16(*name, a, m),
         Instr::Trunc { part, .. } => trunc16(*part, a, m),
@@ -55,7 +54,6 @@ pub(crate) fn one16<'b>(
 pub(crate) fn two16<'b>(instr: &Instr, a: &Lanes<'b>, b: &Lanes<'b>, m: LaneMask) -> Lanes<'b>
     requires two { takes_two (instr_view instr.now) ≡ true }
     requires part { NamesItsPart (instr_view instr.now) }
-    requires kernel { has_kernel (instr_view instr.now) ≡ true }
     ensures value { (table : Table) → AreLegal table a.now → AreLegal table b.now → (i : ℕ) → i < 16
         → value_at table result i
         ≡ under (has m.0 i) (two_of (instr_view instr.now) (value_at table a.now i) (value_at table b.now i)) }

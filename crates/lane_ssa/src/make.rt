@@ -11,7 +11,6 @@ ghost use Rattle.lane_base.specs.declared.lanes.Lanes.{Lanes as LanesValue};
 ghost use Rattle.lane_ssa.specs.Bound.{IsSymbolOf};
 ghost use Rattle.lane_ssa.specs.Compiled.{pattern_of};
 ghost use Rattle.lane_ssa.specs.Frames.{registers_at};
-ghost use Rattle.lane_ssa.specs.Kernels.{has_kernel};
 ghost use Rattle.lane_ssa.specs.Making.{lane_at, IsReadable};
 ghost use Rattle.lane_ssa.specs.Operands.{takes_one, takes_two};
 ghost use Rattle.lane_ssa.specs.Views.{instr_view};
@@ -38,7 +37,6 @@ pub(crate) fn make<'b>(
     values: &mut Vec<Lanes<'b>>,
 )
     requires names { IsInstruction (length masks.old.items) (length values.old.items) (instr_view instr.now) }
-    requires kernel { has_kernel (instr_view instr.now) ≡ true }
     requires symbol { IsSymbolOf table.now (instr_view instr.now) symbol }
     requires pattern { pattern.now ≡ pattern_of (instr_view instr.now) }
     requires readable { IsReadable table.now }
@@ -101,7 +99,6 @@ fn value16<'b>(
 ) -> Lanes<'b>
     requires names { IsInstruction (length masks.now) (length values.now) (instr_view instr.now) }
     requires value { makes_mask (instr_view instr.now) ≡ false }
-    requires kernel { has_kernel (instr_view instr.now) ≡ true }
     requires symbol { IsSymbolOf table.now (instr_view instr.now) symbol }
     requires pattern { pattern.now ≡ pattern_of (instr_view instr.now) }
     requires readable { IsReadable table.now }

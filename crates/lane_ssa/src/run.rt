@@ -8,7 +8,6 @@ ghost use Rattle.lane_ssa.specs.Bound.{IsBound};
 ghost use Rattle.lane_ssa.specs.Compiled.{patterns_of};
 ghost use Rattle.lane_ssa.specs.ChunksOf.{rows_from, IsChunkOf};
 ghost use Rattle.lane_ssa.specs.Frames.{registers_at};
-ghost use Rattle.lane_ssa.specs.Kernels.{HaveKernels};
 ghost use Rattle.lane_ssa.specs.Making.{lane_at, IsReadable};
 ghost use Rattle.lane_ssa.specs.Views.{instr_view};
 
@@ -33,7 +32,6 @@ fn run<'b>(
     values: &mut Vec<Lanes<'b>>,
 )
     requires program { IsProgram (map instr_view instrs.now) }
-    requires kernels { HaveKernels (map instr_view instrs.now) }
     requires bound { IsBound table.now (map instr_view instrs.now) symbols.now }
     requires compiled { patterns.now ≡ patterns_of (map instr_view instrs.now) }
     requires readable { IsReadable table.now }

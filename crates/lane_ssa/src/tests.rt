@@ -3,7 +3,6 @@ ghost use Rattle.program_meaning.specs.Programs.{IsInstruction, mask_count, valu
 ghost use Rattle.program_meaning.specs.Instructions.{makes_mask};
 ghost use Rattle.program_meaning.specs.Jobs.{AreEnds};
 ghost use Rattle.lane_ssa.specs.Bound.{IsBound};
-ghost use Rattle.lane_ssa.specs.Kernels.{has_kernel};
 ghost use Rattle.lane_ssa.specs.Views.{instr_view, ends_view};
 
 use crate::{Builder, EndAggs, EndOuts, Ends, Frame, Instr, Job, Registers, Tally};
@@ -13,7 +12,7 @@ use snel_values::{OutOfMemory, Text, Value};
 use std::alloc::Global;
 use std::process::Abort;
 use std::test::Fail;
-use tree_meaning::{BinOp, Func, How, IsWhat, Part};
+use tree_meaning::{BinOp, CastTo, Func, How, IsWhat, Part};
 
 /// The table of `a` and `b` and the rows `{"a":1,"b":"x"}`, `{"a":null}` and `{"b":7}`.
 const THREE: &[u8] = &[
@@ -109,7 +108,6 @@ const SHOWN: [[Look<'static>; 3]; 7] = [
 /// One instruction more, by its number: those that aren't among the first seven values.
 fn case(k: u32) -> Instr
     ensures names { IsInstruction 3 7 (instr_view result) }
-    ensures kernel { has_kernel (instr_view result) ≡ true }
     ensures value { makes_mask (instr_view result) ≡ false }
 {
     match k {
@@ -180,6 +178,11 @@ fn case(k: u32) -> Instr
             part: Part::Month,
             of: 3,
         },
+        15 => Instr::Cast {
+            mask: 0,
+            to: CastTo::Integer,
+            of: 5,
+        },
         _ => Instr::Shift {
             mask: 0,
             part: Part::Day,
@@ -190,7 +193,7 @@ fn case(k: u32) -> Instr
 }
 
 /// What it shows of the three rows.
-const CASES: [[Look<'static>; 3]; 16] = [
+const CASES: [[Look<'static>; 3]; 17] = [
     [
         Look::Missing,
         Look::Tree(&[0xD2, 0x8A, 0x0F]),
@@ -218,6 +221,7 @@ const CASES: [[Look<'static>; 3]; 16] = [
         Look::Time(1_706_745_600_000_000),
     ],
     [Look::Int(2), Look::Int(2), Look::Int(2)],
+    [Look::Int(0), Look::Int(1), Look::Int(0)],
     [Look::Time(1_709_337_599_999_999), Look::Null, Look::Missing],
 ];
 
