@@ -2,7 +2,6 @@ ghost use Rattle.std.specs.Prelude.{◌≡◌, ◌<◌, ◌+◌, ◌∷◌, [], 
 ghost use Rattle.program_meaning.specs.Instructions.{makes_mask};
 ghost use Rattle.program_meaning.specs.Programs.{IsInstruction, mask_count, value_count};
 ghost use Rattle.program_meaning.specs.Jobs.{AreEnds};
-ghost use Rattle.lane_ssa.specs.Kernels.{has_kernel};
 ghost use Rattle.lane_ssa.specs.Views.{instr_view, ends_view};
 
 use crate::{LinesFault, write_lines};
@@ -28,9 +27,7 @@ const TABLE: &[u8] = &[
 
 /// Adds an instruction that makes a value.
 fn value(builder: &mut Builder, instr: Instr) -> Result<(), OutOfMemory>
-    requires names { IsInstruction (mask_count builder.old) (value_count builder.old)
-        (instr_view instr) }
-    requires kernel { has_kernel (instr_view instr) ≡ true }
+    requires names { IsInstruction (mask_count builder.old) (value_count builder.old) (instr_view instr) }
     requires makes { makes_mask (instr_view instr) ≡ false }
     ensures masks { IfOk result (λ _. mask_count builder.new ≡ mask_count builder.old) }
     ensures values { IfOk result (λ _. value_count builder.new ≡ value_count builder.old + 1) }
@@ -41,9 +38,7 @@ fn value(builder: &mut Builder, instr: Instr) -> Result<(), OutOfMemory>
 
 /// Adds an instruction that makes a mask.
 fn mask(builder: &mut Builder, instr: Instr) -> Result<(), OutOfMemory>
-    requires names { IsInstruction (mask_count builder.old) (value_count builder.old)
-        (instr_view instr) }
-    requires kernel { has_kernel (instr_view instr) ≡ true }
+    requires names { IsInstruction (mask_count builder.old) (value_count builder.old) (instr_view instr) }
     requires makes { makes_mask (instr_view instr) ≡ true }
     ensures masks { IfOk result (λ _. mask_count builder.new ≡ mask_count builder.old + 1) }
     ensures values { IfOk result (λ _. value_count builder.new ≡ value_count builder.old) }
@@ -96,8 +91,7 @@ fn fields(alloc: Global) -> Result<Builder, OutOfMemory>
 
 /// A literal.
 fn literal(builder: &mut Builder, constant: Value) -> Result<(), OutOfMemory>
-    requires names { IsInstruction (mask_count builder.old) (value_count builder.old)
-        (instr_view (Instr.Const 0 constant)) }
+    requires names { IsInstruction (mask_count builder.old) (value_count builder.old) (instr_view (Instr.Const 0 constant)) }
     ensures masks { IfOk result (λ _. mask_count builder.new ≡ mask_count builder.old) }
     ensures values { IfOk result (λ _. value_count builder.new ≡ value_count builder.old + 1) }
 {

@@ -1,5 +1,5 @@
 -- Registers of a frame, in one lane.
-use Rattle.std.proofs.Common.{◌≡◌, ℕ, zero, suc, ◌+◌, ◌<◌, arith, refl, ap, sym, ◌∙◌, List, [], ◌∷◌, ◌++◌, length, map, take, slice_index_or}
+use Rattle.std.proofs.Common.{◌≡◌, ℕ, zero, suc, ◌+◌, ◌<◌, arith, refl, ap, sym, ◌∙◌, List, [], ◌∷◌, ◌++◌, length, map, take, slice_index_or, Option}
 use Rattle.std.proofs.lemmas.List.{length-map, get_or-map}
 use Rattle.std.proofs.lemmas.List.Sums.{fold-append}
 use Rattle.block_meaning.specs.Tables.{Table}
@@ -13,6 +13,8 @@ use Rattle.program_meaning.specs.Programs.{mask_count, value_count, IsInstructio
 use Rattle.program_meaning.specs.Registers.{Lane, State, step, empty, after}
 use Rattle.program_meaning.proofs.Programs.{length-masks, length-values, masks_few, values_few, names_at}
 use Rattle.lane_ssa.specs.declared.instr.Instr.{Instr as InstrCode}
+use Rattle.lane_text.specs.PatternValue.{PatternValue}
+use Rattle.lane_ssa.specs.Compiled.{pattern_of, patterns_of}
 use Rattle.lane_ssa.specs.Frames.{registers_at}
 use Rattle.lane_ssa.specs.Views.{instr_view}
 
@@ -27,6 +29,13 @@ module _ (table : Table) (ms : List LaneMask) (vs : List Lanes) (i : ℕ) where
 -- an instruction stands for that at its place
 pub viewed_at : (xs : List InstrCode) (k : ℕ) (x : InstrCode) → x ≡ slice_index_or xs k x → k < length xs → slice_index_or (map instr_view xs) k instr.all ≡ instr_view x
 viewed_at xs k x e h = get_or-map instr_view xs k x instr.all h ∙ ap instr_view (sym e)
+
+-- its pattern stands there too
+pub pattern_at : (xs : List InstrCode) (ps : List (Option PatternValue)) (k : ℕ) (x : InstrCode) (p : Option PatternValue) → ps ≡ patterns_of (map instr_view xs) → x ≡ slice_index_or xs k x → p ≡ slice_index_or ps k p → k < length xs → p ≡ pattern_of (instr_view x)
+pattern_at xs ps k x p compiled e is h =
+    let within : k < length (map instr_view xs) = omega (arith, length-map xs instr_view) in
+    is ∙ ap (λ ys. slice_index_or ys k p) compiled ∙ get_or-map pattern_of (map instr_view xs) k instr.all p within
+    ∙ ap pattern_of (viewed_at xs k x e h)
 
 -- what holds of the registers before one instruction of a program
 pub record IsNext (table : Table) (ms : List LaneMask) (vs : List Lanes) (program : List Instr) (x : Instr) : Type 0 where

@@ -2,10 +2,11 @@ pub mod Views
 pub mod EndParts
 pub mod JobViews
 pub mod CodedJob
-pub mod Kernels
 pub mod Built
 pub mod Counts
 pub mod Frames
 pub mod Bound
+pub mod Compiled
 pub mod ChunksOf
 pub mod Making
+pub mod Operands

@@ -15,22 +15,25 @@ ghost use Rattle.lane_ssa.specs.Counts.{counted};
 ghost use Rattle.lane_ssa.specs.Frames.{state_at};
 
 use crate::bind::bind_all;
+use crate::compile::compile_all;
 use crate::job::Job;
 use crate::run::run_rows;
 use crate::tally::Tally;
 use block_file::{Block, Chunk};
 use ion_symtab::SymTab;
 use lane_base::{LaneMask, Lanes, Look};
+use lane_text::Pattern;
 use snel_values::OutOfMemory;
 use std::alloc::Global;
 use std::marker::Model;
 
-/// The registers of a job, and room for all of them. A frame is bound to the symbol table of a block, and then runs chunks
-/// of that block.
+/// The registers of a job, with room for all of them, and its patterns, compiled. A frame is bound to the symbol table of a
+/// block, and then runs chunks of that block.
 #[derive(Drop)]
 pub struct Frame<'b> {
     job: &'b Job,
     symbols: Vec<Option<u32>>,
+    patterns: Vec<Option<Pattern>>,
     masks: Vec<LaneMask>,
     values: Vec<Lanes<'b>>,
     passed: LaneMask,
@@ -38,7 +41,8 @@ pub struct Frame<'b> {
 }
 
 impl<'b> Model for Frame<'b> {
-    ghost use Rattle.std.specs.Prelude.{◌≤◌, length, vec_capacity};
+    ghost use Rattle.std.specs.Prelude.{◌≡◌, ◌≤◌, length, vec_capacity};
+    ghost use Rattle.lane_ssa.specs.Compiled.{patterns_of};
     ghost use Rattle.lane_ssa.specs.Frames.{FrameView};
     ghost use Rattle.std.specs.Coded.{codes};
     ghost use Rattle.lane_ssa.specs.CodedJob.{coded_job};
@@ -57,7 +61,7 @@ impl<'b> Model for Frame<'b> {
       kept = f.tally.kept;
     } };
 
-    ghost invariant = { λ f. (length f.job.now.program ≤ vec_capacity f.symbols) × (length f.job.now.program ≤ vec_capacity f.masks) × (length f.job.now.program ≤ vec_capacity f.values) };
+    ghost invariant = { λ f. (length f.job.now.program ≤ vec_capacity f.symbols) × (length f.job.now.program ≤ vec_capacity f.masks) × (length f.job.now.program ≤ vec_capacity f.values) × (f.patterns.items ≡ patterns_of f.job.now.program) };
 }
 
 impl<'b> Frame<'b> {
@@ -72,6 +76,7 @@ impl<'b> Frame<'b> {
         Ok(Frame {
             job,
             symbols: Vec::with_capacity(alloc, count)?,
+            patterns: compile_all(alloc, job.instrs())?,
             masks: Vec::with_capacity(alloc, count)?,
             values: Vec::with_capacity(alloc, count)?,
             passed: LaneMask(0),
@@ -116,6 +121,7 @@ impl<'b> Frame<'b> {
         run_rows(
             self.job,
             &self.symbols,
+            &self.patterns,
             block,
             chunk,
             &mut self.masks,

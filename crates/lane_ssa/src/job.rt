@@ -2,7 +2,6 @@ ghost use Rattle.std.specs.Prelude.{◌≡◌, ◌<◌, ◌++◌, ◌∷◌, [],
 ghost use Rattle.program_meaning.specs.Programs.{IsInstruction, IsProgram, mask_count, value_count, number_after};
 ghost use Rattle.program_meaning.specs.Instructions.{makes_mask};
 ghost use Rattle.program_meaning.specs.Jobs.{AreEnds, IsJob};
-ghost use Rattle.lane_ssa.specs.Kernels.{has_kernel, HaveKernels};
 ghost use Rattle.lane_ssa.specs.Views.{instr_view, ends_view};
 
 use crate::ends::Ends;
@@ -52,7 +51,6 @@ impl Builder {
     /// kind as a `u32` counts.
     pub fn put(&mut self, instr: Instr) -> Result<u32, OutOfMemory>
         requires names { IsInstruction (mask_count self.old) (value_count self.old) (instr_view instr) }
-        requires kernel { has_kernel (instr_view instr) ≡ true }
         ensures ok { IfOk result (λ r. self.new ≡ self.old ++ instr_view instr ∷ []) }
         ensures number { IfOk result (λ r. r ≡ number_after self.old (instr_view instr)) }
         ensures err { OnErr result (self.new ≡ self.old) }
@@ -101,8 +99,7 @@ pub struct Job {
 
 impl Model for Job {
     ghost use Rattle.std.specs.Prelude.{map};
-    ghost use Rattle.program_meaning.specs.Jobs.{Job as JobValue};
-    ghost use Rattle.lane_ssa.specs.Built.{IsReady};
+    ghost use Rattle.program_meaning.specs.Jobs.{Job as JobValue, IsJob};
     ghost use Rattle.lane_ssa.specs.JobViews.{job_view};
     ghost use Rattle.lane_ssa.specs.CodedJob.{coded_job};
 
@@ -112,7 +109,7 @@ impl Model for Job {
 
     ghost view = { λ j. job_view j.instrs.items j.ends };
 
-    ghost invariant = { λ j. IsReady (job_view j.instrs.items j.ends) };
+    ghost invariant = { λ j. IsJob (job_view j.instrs.items j.ends) };
 }
 
 impl Job {
@@ -120,7 +117,6 @@ impl Job {
     pub fn instrs(&self) -> &[Instr]
         ensures value { map instr_view result.now ≡ self.now.program }
         ensures program { IsProgram self.now.program }
-        ensures kernels { HaveKernels self.now.program }
     {
         self.instrs.as_slice()
     }

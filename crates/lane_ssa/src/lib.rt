@@ -6,12 +6,15 @@
 #![tactic(auto)]
 
 mod bind;
+mod compile;
 mod ends;
 mod frame;
 mod instr;
 mod job;
+mod kernels;
 mod literal;
 mod make;
+mod operands;
 mod path;
 mod rows;
 mod run;

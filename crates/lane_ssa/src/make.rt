@@ -1,30 +1,35 @@
 //! One instruction over the registers that were made before it.
 
-ghost use Rattle.std.specs.Prelude.{◌≡◌, ◌<◌, ◌≤◌, ◌++◌, ◌∷◌, [], ℕ, All, true, length, vec_len, vec_capacity};
+ghost use Rattle.std.specs.Prelude.{◌≡◌, ◌<◌, ◌≤◌, ◌++◌, ◌∷◌, [], ℕ, All, true, false, length, vec_len, vec_capacity};
 ghost use Rattle.block_meaning.specs.Tables.{Table};
-ghost use Rattle.eval_meaning.specs.Evaluation.{binary};
+ghost use Rattle.program_meaning.specs.Instructions.{makes_mask};
 ghost use Rattle.program_meaning.specs.Programs.{IsInstruction};
-ghost use Rattle.program_meaning.specs.Registers.{step};
+ghost use Rattle.program_meaning.specs.Registers.{made_by, step, new_mask, new_value};
 ghost use Rattle.lane_base.specs.Bits.{has};
-ghost use Rattle.lane_base.specs.Registers.{value_at, under, AreLegal};
+ghost use Rattle.lane_base.specs.Registers.{value_at, AreLegal};
+ghost use Rattle.lane_base.specs.declared.lanes.Lanes.{Lanes as LanesValue};
 ghost use Rattle.lane_ssa.specs.Bound.{IsSymbolOf};
+ghost use Rattle.lane_ssa.specs.Compiled.{pattern_of};
 ghost use Rattle.lane_ssa.specs.Frames.{registers_at};
-ghost use Rattle.lane_ssa.specs.Kernels.{has_kernel, has_operator};
 ghost use Rattle.lane_ssa.specs.Making.{lane_at, IsReadable};
+ghost use Rattle.lane_ssa.specs.Operands.{takes_one, takes_two};
 ghost use Rattle.lane_ssa.specs.Views.{instr_view};
 
 use crate::instr::Instr;
+use crate::kernels::{one16, two16};
 use crate::literal::look_of;
+use crate::operands::{mask_of, operand_of, second_of};
 use crate::path::{field16, place16};
 use ion_symtab::SymTab;
-use lane_base::{LaneMask, Lanes, and16, const16, is16, keep16, merge16, not16, or16, true16};
-use tree_meaning::BinOp;
+use lane_base::{LaneMask, Lanes, const16, keep16, merge16, true16};
+use lane_text::Pattern;
 
-/// Makes the register of one instruction. `symbol` is the number of its name.
+/// Makes the register of one instruction. `symbol` is the number of its name, `pattern` its pattern.
 #[inline(always)]
 pub(crate) fn make<'b>(
     instr: &'b Instr,
     symbol: Option<u32>,
+    pattern: &Option<Pattern>,
     table: &SymTab<'b>,
     live: LaneMask,
     rows: &Lanes<'b>,
@@ -32,8 +37,8 @@ pub(crate) fn make<'b>(
     values: &mut Vec<Lanes<'b>>,
 )
     requires names { IsInstruction (length masks.old.items) (length values.old.items) (instr_view instr.now) }
-    requires kernel { has_kernel (instr_view instr.now) ≡ true }
     requires symbol { IsSymbolOf table.now (instr_view instr.now) symbol }
+    requires pattern { pattern.now ≡ pattern_of (instr_view instr.now) }
     requires readable { IsReadable table.now }
     requires rows { AreLegal table.now rows.now }
     requires legal { All (AreLegal table.now) values.old.items }
@@ -46,70 +51,82 @@ pub(crate) fn make<'b>(
     ensures value_room { vec_capacity values.old ≤ vec_capacity values.new }
 {
     match instr {
-        Instr::All => put_mask(masks, live),
-        Instr::True { mask, of } => {
-            let made = true16(&values[*of as usize], masks[*mask as usize]);
+        Instr::All | Instr::True { .. } | Instr::Minus { .. } => {
+            let made = mask16(instr, live, masks.as_slice(), values.as_slice());
             put_mask(masks, made);
         }
-        Instr::Minus { mask, less } => {
-            let made = masks[*mask as usize].minus(masks[*less as usize]);
-            put_mask(masks, made);
-        }
-        Instr::Root { mask } => put_value(values, keep16(rows, masks[*mask as usize])),
-        Instr::Const { mask, value } => put_value(
-            values,
-            const16(look_of(value), masks[*mask as usize]),
-        ),
-        Instr::Field { mask, of, .. } => {
-            let made = field16(&values[*of as usize], symbol, table, masks[*mask as usize]);
-            put_value(values, made);
-        }
-        Instr::At { mask, of, at } => {
-            let made = place16(&values[*of as usize], *at, table, masks[*mask as usize]);
-            put_value(values, made);
-        }
-        Instr::Not { mask, of } => {
-            let made = not16(&values[*of as usize], masks[*mask as usize]);
-            put_value(values, made);
-        }
-        Instr::Is { mask, what, of } => {
-            let made = is16(*what, &values[*of as usize], masks[*mask as usize]);
-            put_value(values, made);
-        }
-        Instr::Bin { mask, op, a, b } => {
-            let made = bin16(
-                *op,
-                &values[*a as usize],
-                &values[*b as usize],
-                masks[*mask as usize],
-            );
-            put_value(values, made);
-        }
-        Instr::Merge { mask, pick, a, b } => {
-            let pick = masks[*pick as usize];
-            let made = merge16(
-                pick,
-                &values[*a as usize],
-                &values[*b as usize],
-                masks[*mask as usize],
+        _ => {
+            let made = value16(
+                instr,
+                symbol,
+                pattern,
+                table,
+                rows,
+                masks.as_slice(),
+                values.as_slice(),
             );
             put_value(values, made);
         }
     }
 }
 
-/// What an operator gives of two values, in the lanes of `m`.
+/// The mask that an instruction makes.
 #[inline(always)]
-fn bin16<'b>(op: BinOp, a: &Lanes<'b>, b: &Lanes<'b>, m: LaneMask) -> Lanes<'b>
-    requires { has_operator op ≡ true }
-    ensures value { (table : Table) → AreLegal table a.now → AreLegal table b.now → (i : ℕ) → i < 16
-        → value_at table result i ≡ under (has m.0 i) (binary op (value_at table a.now i) (value_at table b.now i)) }
-    ensures legal { (table : Table) → AreLegal table result }
+fn mask16(instr: &Instr, live: LaneMask, masks: &[LaneMask], values: &[Lanes<'_>]) -> LaneMask
+    requires names { IsInstruction (length masks.now) (length values.now) (instr_view instr.now) }
+    requires mask { makes_mask (instr_view instr.now) ≡ true }
+    ensures { (table : Table) (rows : LanesValue) → All (AreLegal table) values.now → (i : ℕ) → i < 16
+        → new_mask (has result.0 i)
+        ≡ made_by (lane_at table live.0 rows i) (registers_at table masks.now values.now i) (instr_view instr.now) }
 {
-    match op {
-        BinOp::And => and16(a, b, m),
-        BinOp::Or => or16(a, b, m),
-        _ => unreachable!(),
+    match instr {
+        Instr::True { mask, of } => true16(&values[*of as usize], masks[*mask as usize]),
+        Instr::Minus { mask, less } => masks[*mask as usize].minus(masks[*less as usize]),
+        _ => live,
+    }
+}
+
+/// The value that an instruction makes. `symbol` is the number of its name, `pattern` its pattern.
+#[inline(always)]
+fn value16<'b>(
+    instr: &'b Instr,
+    symbol: Option<u32>,
+    pattern: &Option<Pattern>,
+    table: &SymTab<'b>,
+    rows: &Lanes<'b>,
+    masks: &[LaneMask],
+    values: &[Lanes<'b>],
+) -> Lanes<'b>
+    requires names { IsInstruction (length masks.now) (length values.now) (instr_view instr.now) }
+    requires value { makes_mask (instr_view instr.now) ≡ false }
+    requires symbol { IsSymbolOf table.now (instr_view instr.now) symbol }
+    requires pattern { pattern.now ≡ pattern_of (instr_view instr.now) }
+    requires readable { IsReadable table.now }
+    requires rows { AreLegal table.now rows.now }
+    requires legal { All (AreLegal table.now) values.now }
+    ensures value { (live i : ℕ) → i < 16 → new_value (value_at table.now result i)
+        ≡ made_by (lane_at table.now live rows.now i) (registers_at table.now masks.now values.now i) (instr_view instr.now) }
+    ensures legal { AreLegal table.now result }
+{
+    let m = masks[mask_of(instr) as usize];
+    match instr {
+        Instr::Root { .. } => keep16(rows, m),
+        Instr::Const { value, .. } => const16(look_of(value), m),
+        Instr::Field { of, .. } => field16(&values[*of as usize], symbol, table, m),
+        Instr::At { of, at, .. } => place16(&values[*of as usize], *at, table, m),
+        Instr::Merge { pick, a, b, .. } => merge16(
+            masks[*pick as usize],
+            &values[*a as usize],
+            &values[*b as usize],
+            m,
+        ),
+        Instr::Bin { .. } | Instr::First { .. } | Instr::Shift { .. } => two16(
+            instr,
+            &values[operand_of(instr) as usize],
+            &values[second_of(instr) as usize],
+            m,
+        ),
+        _ => one16(instr, pattern, &values[operand_of(instr) as usize], m),
     }
 }
 

@@ -5,9 +5,9 @@ ghost use Rattle.program_meaning.specs.Registers.{after, HasRun};
 ghost use Rattle.program_meaning.specs.Simulation.{lanes_of};
 ghost use Rattle.lane_base.specs.Registers.{AreLegal};
 ghost use Rattle.lane_ssa.specs.Bound.{IsBound};
+ghost use Rattle.lane_ssa.specs.Compiled.{patterns_of};
 ghost use Rattle.lane_ssa.specs.ChunksOf.{rows_from, IsChunkOf};
 ghost use Rattle.lane_ssa.specs.Frames.{registers_at};
-ghost use Rattle.lane_ssa.specs.Kernels.{HaveKernels};
 ghost use Rattle.lane_ssa.specs.Making.{lane_at, IsReadable};
 ghost use Rattle.lane_ssa.specs.Views.{instr_view};
 
@@ -18,11 +18,13 @@ use crate::rows::{live_of, rows16};
 use block_file::{Block, Chunk};
 use ion_symtab::SymTab;
 use lane_base::{LaneMask, Lanes};
+use lane_text::Pattern;
 
 /// Makes the registers of a program, on the rows of the live lanes.
 fn run<'b>(
     instrs: &'b [Instr],
     symbols: &[Option<u32>],
+    patterns: &[Option<Pattern>],
     table: &SymTab<'b>,
     live: LaneMask,
     rows: &Lanes<'b>,
@@ -30,8 +32,8 @@ fn run<'b>(
     values: &mut Vec<Lanes<'b>>,
 )
     requires program { IsProgram (map instr_view instrs.now) }
-    requires kernels { HaveKernels (map instr_view instrs.now) }
     requires bound { IsBound table.now (map instr_view instrs.now) symbols.now }
+    requires compiled { patterns.now ≡ patterns_of (map instr_view instrs.now) }
     requires readable { IsReadable table.now }
     requires rows { AreLegal table.now rows.now }
     requires mask_room { length instrs.now ≤ vec_capacity masks.old }
@@ -45,7 +47,16 @@ fn run<'b>(
     masks.clear();
     values.clear();
     for k in 0..instrs.len() {
-        make(&instrs[k], symbols[k], table, live, rows, masks, values);
+        make(
+            &instrs[k],
+            symbols[k],
+            &patterns[k],
+            table,
+            live,
+            rows,
+            masks,
+            values,
+        );
     }
 }
 
@@ -53,12 +64,14 @@ fn run<'b>(
 pub(crate) fn run_rows<'b>(
     job: &'b Job,
     symbols: &[Option<u32>],
+    patterns: &[Option<Pattern>],
     block: &Block<'b>,
     chunk: &Chunk<'b>,
     masks: &mut Vec<LaneMask>,
     values: &mut Vec<Lanes<'b>>,
 )
     requires bound { IsBound block.now.0 job.now.program symbols.now }
+    requires compiled { patterns.now ≡ patterns_of job.now.program }
     requires chunk { IsChunkOf block.now.0 block.now.1 chunk.now }
     requires mask_room { length job.now.program ≤ vec_capacity masks.old }
     requires value_room { length job.now.program ≤ vec_capacity values.old }
@@ -77,5 +90,14 @@ pub(crate) fn run_rows<'b>(
     let _last = table.last();
     let live = live_of(chunk);
     let rows = rows16(chunk, live);
-    run(job.instrs(), symbols, table, live, &rows, masks, values);
+    run(
+        job.instrs(),
+        symbols,
+        patterns,
+        table,
+        live,
+        &rows,
+        masks,
+        values,
+    );
 }

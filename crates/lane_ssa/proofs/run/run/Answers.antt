@@ -1,12 +1,9 @@
-use Rattle.std.proofs.Common.{◌≡◌, ◌<◌, length, arith, subst, true}
+use Rattle.std.proofs.Common.{◌<◌, length, arith}
 use Rattle.std.specs.Prelude.{map}
 use Rattle.std.proofs.lemmas.List.{length-map}
-use Rattle.std.proofs.lemmas.List.Elements.{All-get_or}
-use Rattle.program_meaning.specs.Instructions as instr
-use Rattle.lane_ssa.specs.Kernels.{has_kernel}
 use Rattle.lane_ssa.specs.Making.{lane_at}
 use Rattle.lane_ssa.specs.Views.{instr_view}
-use Rattle.lane_ssa.proofs.LaneRegisters.{viewed_at, is_next, run_next}
+use Rattle.lane_ssa.proofs.LaneRegisters.{viewed_at, pattern_at, is_next, run_next}
 use Rattle.lane_ssa.proofs.run.run.Goals as goal
 
 pub make-requires-clause-names : goal.make-requires-clause-names
@@ -38,9 +35,6 @@ loop-k-preserved c =
       value_room = omega (arith, c.loop-k.invariant.value_room, c.make.ensures.value_room);
     }
 
-pub make-requires-clause-kernel : goal.make-requires-clause-kernel
-make-requires-clause-kernel c =
-    let within : c.loop-k.k < length (map instr_view c.args.instrs.now) = omega (arith, length-map c.args.instrs.now instr_view) in
-    let here = viewed_at c.args.instrs.now c.loop-k.k _ c.index-instrs-k.is (omega arith) in
-    subst (λ x. has_kernel x ≡ true) here
-    (All-get_or (λ x. has_kernel x ≡ true) (map instr_view c.args.instrs.now) c.loop-k.k instr.all within c.requires.kernels)
+pub make-requires-clause-pattern : goal.make-requires-clause-pattern
+make-requires-clause-pattern c =
+    pattern_at c.args.instrs.now c.args.patterns.now c.loop-k.k _ _ c.requires.compiled c.index-instrs-k.is c.index-patterns-k.is (omega arith)

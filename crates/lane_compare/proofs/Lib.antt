@@ -1,0 +1,5 @@
+pub mod Marks
+pub mod Reading
+pub mod Ordered
+pub mod StrictLanes
+pub mod Tested

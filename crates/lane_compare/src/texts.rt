@@ -1,0 +1,54 @@
+ghost use Rattle.std.specs.Prelude.{◌≡◌, ◌<◌, ℕ, ◌&&◌};
+ghost use Rattle.std.specs.Ordering.{nat_cmp};
+ghost use Rattle.std.specs.Cmp.Lexicographic.{slice_cmp};
+ghost use Rattle.eval_meaning.specs.Comparisons.{meets};
+ghost use Rattle.lane_base.specs.Bits.{has};
+ghost use Rattle.lane_base.specs.Registers.{span_at};
+
+use lane_base::{LaneMask, SpanLanes};
+use std::cmp::Ordering;
+use tree_meaning::BinOp;
+
+/// The lanes of `m` in which `a op b` of the bytes of their spans.
+#[inline(always)]
+pub(crate) fn texts_meet(
+    op: BinOp,
+    a: &SpanLanes<'_>,
+    b: &SpanLanes<'_>,
+    m: LaneMask,
+) -> LaneMask
+    ensures { (k : ℕ) → k < 16 → has result.0 k
+        ≡ (has m.0 k && meets op (slice_cmp nat_cmp (span_at a.now.lanes k) (span_at b.now.lanes k))) }
+{
+    if m.is_none() { m } else { each_text_meets(op, a, b, m) }
+}
+
+// The same, lane by lane.
+fn each_text_meets(op: BinOp, a: &SpanLanes<'_>, b: &SpanLanes<'_>, m: LaneMask) -> LaneMask
+    ensures { (k : ℕ) → k < 16 → has result.0 k
+        ≡ (has m.0 k && meets op (slice_cmp nat_cmp (span_at a.now.lanes k) (span_at b.now.lanes k))) }
+{
+    let mut mask = 0u16;
+    for i in 0..16usize {
+        if m.has(i as u32) && order_meets(op, a.lanes[i].cmp(b.lanes[i])) {
+            mask |= 1 << i;
+        }
+    }
+    LaneMask(mask)
+}
+
+// Whether `a op b`, where `a` stands so to `b`.
+#[inline(always)]
+fn order_meets(op: BinOp, order: Ordering) -> bool
+    ensures { result ≡ meets op order }
+{
+    match op {
+        BinOp::Eq => order.is_eq(),
+        BinOp::Ne => order.is_ne(),
+        BinOp::Lt => order.is_lt(),
+        BinOp::Le => order.is_le(),
+        BinOp::Gt => order.is_gt(),
+        BinOp::Ge => order.is_ge(),
+        _ => false,
+    }
+}

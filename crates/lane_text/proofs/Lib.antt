@@ -1,0 +1,17 @@
+pub mod Advance
+pub mod BytesAsChars
+pub mod Chains
+pub mod CharSteps
+pub mod Counts
+pub mod Ends
+pub mod Folding
+pub mod Greedy
+pub mod LaneLoops
+pub mod Leads
+pub mod Parts
+pub mod Percents
+pub mod Plain
+pub mod Search
+pub mod SetBits
+pub mod Steps
+pub mod TextLanes

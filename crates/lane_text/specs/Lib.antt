@@ -1,0 +1,4 @@
+pub mod Bytewise
+pub mod PatternValue
+pub mod PieceLaws
+pub mod Pieces
