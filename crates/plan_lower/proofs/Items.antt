@@ -51,6 +51,13 @@ module _ {A : Type 0} where
   some_below (x ∷ xs) zero h e = cc
   some_below (x ∷ xs) (suc k) h e = some_below xs k (omega (arith, h)) e
 
+  -- one item, and two
+  pub is_one : (xs : List A) (x : A) → length xs ≡ 1 → slice_get xs 0 ≡ Some x → xs ≡ x ∷ []
+  is_one xs x h e = sym (whole xs 1 (omega (arith, h))) ∙ take_more xs 0 x e
+
+  pub are_two : (xs : List A) (x y : A) → length xs ≡ 2 → slice_get xs 0 ≡ Some x → slice_get xs 1 ≡ Some y → xs ≡ x ∷ y ∷ []
+  are_two xs x y h e f = sym (whole xs 2 (omega (arith, h))) ∙ take_more xs 1 y f ∙ ap (λ l. l ++ y ∷ []) (take_more xs 0 x e)
+
   module _ (p : A → Bool) where
     pub passes_at : (xs : List A) (k : ℕ) (x : A) → slice_get xs k ≡ Some x → list_all p xs ≡ true → p x ≡ true
     passes_at [] k x h a = cc

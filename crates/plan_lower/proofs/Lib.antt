@@ -1,8 +1,13 @@
 pub mod Items
+pub mod Showing
 pub mod LiveLanes
-pub mod EmittedValues
-pub mod EmittedOutputs
-pub mod Emissions
+pub mod PathValues
+pub mod Members
+pub mod Operands
+pub mod FormedParts
+pub mod Operations
+pub mod Choices
+pub mod Outputs
 pub mod PlainQueries
 pub mod PlainJobs
 pub mod Lines

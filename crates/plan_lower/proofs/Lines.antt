@@ -9,7 +9,7 @@ use Rattle.program_meaning.specs.Programs.{makes_value, mask_count, value_count}
 use Rattle.program_meaning.proofs.Programs.{mask_count-push}
 use Rattle.plan_lower.specs.Listing.{instr_line, program_text}
 use Rattle.plan_lower.proofs.Items.{some_is, take_more, whole}
-use Rattle.plan_lower.proofs.EmittedValues.{ap2}
+use Rattle.plan_lower.proofs.Showing.{ap2}
 
 module _ {A : Type 0} (f : A → List ℕ) where
   pub no_lines : (old : List ℕ) (xs : List A) → old ≡ old ++ flat_map f (take 0 xs)

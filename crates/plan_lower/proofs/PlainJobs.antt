@@ -20,7 +20,7 @@ use Rattle.plan_lower.specs.Forms.{is_lowered}
 use Rattle.plan_lower.specs.Emitting.{EmitsAll, Keeps}
 use Rattle.plan_lower.specs.Ends.{registers_of, plain_ends}
 use Rattle.plan_lower.proofs.Items.{all_nil}
-use Rattle.plan_lower.proofs.EmittedValues.{mask_known}
+use Rattle.plan_lower.proofs.Showing.{mask_known}
 use Rattle.plan_lower.proofs.PlainQueries.{IsPlain, lowered_is_plain, is_ungrouped}
 
 mapped_twice : {A B C : Type 0} (f : A → B) (g : B → C) (xs : List A) → map g (map f xs) ≡ map (λ x. g (f x)) xs

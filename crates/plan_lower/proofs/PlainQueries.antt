@@ -1,5 +1,5 @@
 -- The queries that are lowered have no groups, and each literal of theirs is a constant.
-use Rattle.std.proofs.Common.{◌≡◌, ℕ, ◌+◌, Bool, true, false, ◌&&◌, List, [], ◌∷◌, ◌++◌, map, length, Option, Some, None, refl, ap, ◌∙◌, arith}
+use Rattle.std.proofs.Common.{◌≡◌, ℕ, ◌+◌, Bool, true, false, not, ◌&&◌, List, [], ◌∷◌, ◌++◌, map, length, Option, Some, None, refl, ap, ◌∙◌, arith}
 use Rattle.std.proofs.lemmas.List.{length-map}
 use Rattle.std.proofs.lemmas.List.FromFn.{length-enumerate_from}
 use Rattle.std.proofs.lemmas.Bool.{le-leb}
@@ -8,13 +8,12 @@ use Rattle.std.proofs.lemmas.List.Folds.{list_any-append}
 use Rattle.std.specs.Prelude.{is_none, ◌==◌, ℤ, pos, negsuc}
 use Rattle.std.specs.List.{list_all, list_any, enumerate_from}
 use Rattle.value_meaning.specs.Val.{Val, missing, null, truth, int, time, text, list, struct}
-use Rattle.tree_meaning.specs.Tree.{Ex, lit, path, neg, no, bin, is, member, between, matching, choice, cast, call, trunc, extract, shift, agg_of_rows, agg, Outs, star, named, Query}
+use Rattle.tree_meaning.specs.Tree.{Ex, Outs, star, named, Query}
 use Rattle.tree_meaning.specs.WellFormed.{IsNumber, IsLiteral}
 use Rattle.check_meaning.specs.Names.{items_of, names, output_name}
-use Rattle.check_meaning.specs.Parts.{within, parts_outside, none}
 use Rattle.check_meaning.specs.Place.{Place, output, where_test}
 use Rattle.check_meaning.specs.Places.{output_exs, places, counted, alone}
-use Rattle.check_meaning.specs.Aggregates.{is_aggregate, has_aggregate, asks_a_group, is_grouped}
+use Rattle.check_meaning.specs.Aggregates.{has_aggregate, asks_a_group, is_grouped}
 use Rattle.eval_meaning.specs.Numbers.{fits}
 use Rattle.program_meaning.specs.Programs.{IsConstant}
 use Rattle.plan_lower.specs.Forms.{is_lowered_ex, is_lowered_output, are_lowered_outs, is_lowered_filter, is_lowered}
@@ -57,56 +56,12 @@ lowered_is_plain q h =
     }
 
 -- no aggregate stands in such an expression
-none_of_two : (xs ys : List Ex) → list_any is_aggregate xs ≡ false → list_any is_aggregate ys ≡ false → list_any is_aggregate (xs ++ ys) ≡ false
-none_of_two xs ys h k = list_any-append is_aggregate xs ys ∙ rw (h, k) refl
-
-none_here : (e : Ex) → is_lowered_ex e ≡ true → is_aggregate e ≡ false
-none_here (lit v) h = refl
-none_here (path r ss) h = refl
-none_here (no e) h = refl
-none_here (bin o a b) h = refl
-none_here (is w e) h = refl
-none_here (neg e) h = absurd (cc)
-none_here (member e es) h = absurd (cc)
-none_here (between e a b) h = absurd (cc)
-none_here (matching m e s) h = absurd (cc)
-none_here (choice r e) h = absurd (cc)
-none_here (cast c e) h = absurd (cc)
-none_here (call f es) h = absurd (cc)
-none_here (trunc p e) h = absurd (cc)
-none_here (extract p e) h = absurd (cc)
-none_here (shift p a e) h = absurd (cc)
-none_here (agg_of_rows n) h = absurd (cc)
-none_here (agg n e) h = absurd (cc)
-
-none_in : (e : Ex) (inner : List Ex) → is_lowered_ex e ≡ true → list_any is_aggregate inner ≡ false → list_any is_aggregate (e ∷ inner) ≡ false
-none_in e inner h k = rw (none_here e h, k) refl
-
-none_within : (e : Ex) → is_lowered_ex e ≡ true → list_any is_aggregate (within none e) ≡ false
-unfolding within
-none_within (lit v) h = refl
-none_within (path r ss) h = refl
-none_within (no e) h = none_in e (within none e) h (none_within e h)
-none_within (bin o a b) h =
-    let parts = both _ _ (both _ _ h).1 in
-    none_of_two (a ∷ within none a) (b ∷ within none b) (none_in a (within none a) parts.0 (none_within a parts.0)) (none_in b (within none b) parts.1 (none_within b parts.1))
-none_within (is w e) h = none_in e (within none e) h (none_within e h)
-none_within (neg e) h = absurd (cc)
-none_within (member e es) h = absurd (cc)
-none_within (between e a b) h = absurd (cc)
-none_within (matching m e s) h = absurd (cc)
-none_within (choice r e) h = absurd (cc)
-none_within (cast c e) h = absurd (cc)
-none_within (call f es) h = absurd (cc)
-none_within (trunc p e) h = absurd (cc)
-none_within (extract p e) h = absurd (cc)
-none_within (shift p a e) h = absurd (cc)
-none_within (agg_of_rows n) h = absurd (cc)
-none_within (agg n e) h = absurd (cc)
-
 no_aggregate : (e : Ex) → is_lowered_ex e ≡ true → has_aggregate e ≡ false
-unfolding parts_outside
-no_aggregate e h = none_in e (within none e) h (none_within e h)
+no_aggregate e h = turned (has_aggregate e) h
+  where
+    turned : (b : Bool) → not b ≡ true → b ≡ false
+    turned true k = cc
+    turned false k = refl
 
 outputs_ask_none : (items : List (Ex × Option (List ℕ))) (k : ℕ) → list_all is_lowered_output items ≡ true
     → list_any asks_a_group (map (λ (n : ℕ × Ex). (output n.0, n.1)) (enumerate_from k (map (λ (o : Ex × Option (List ℕ)). o.0) items))) ≡ false

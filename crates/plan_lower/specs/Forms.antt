@@ -1,24 +1,12 @@
 -- The queries that are lowered.
-use Rattle.std.specs.Prelude.{ℕ, Bool, true, false, ◌&&◌, ◌==◌, List, length, Option, None, Some, is_none}
+use Rattle.std.specs.Prelude.{ℕ, Bool, true, not, ◌&&◌, ◌==◌, List, length, Option, None, Some, is_none}
 use Rattle.std.specs.List.{list_all}
-use Rattle.tree_meaning.specs.declared.BinOp.{BinOp}
-use Rattle.tree_meaning.specs.declared.BinOp.TheVariants as op
-use Rattle.tree_meaning.specs.Tree.{Ex, lit, path, no, bin, is, Outs, star, named, Query}
+use Rattle.tree_meaning.specs.Tree.{Ex, Outs, star, named, Query}
+use Rattle.check_meaning.specs.Aggregates.{has_aggregate}
 
--- AND and OR
-abbrev pub is_lowered_op : BinOp → Bool
-is_lowered_op op.And = true
-is_lowered_op op.Or = true
-is_lowered_op o = false
-
--- of literals, paths, NOT, AND, OR and IS alone
+-- no aggregate stands in the expression
 abbrev pub is_lowered_ex : Ex → Bool
-is_lowered_ex (lit v) = true
-is_lowered_ex (path r ss) = true
-is_lowered_ex (no e) = is_lowered_ex e
-is_lowered_ex (bin o a b) = is_lowered_op o && (is_lowered_ex a && is_lowered_ex b)
-is_lowered_ex (is w e) = is_lowered_ex e
-is_lowered_ex e = false
+is_lowered_ex e = not (has_aggregate e)
 
 abbrev pub is_lowered_output : Ex × Option (List ℕ) → Bool
 is_lowered_output o = is_lowered_ex o.0
@@ -31,7 +19,7 @@ abbrev pub is_lowered_filter : Option Ex → Bool
 is_lowered_filter None = true
 is_lowered_filter (Some e) = is_lowered_ex e
 
--- outputs and WHERE of such expressions, without GROUP BY, HAVING, ORDER BY and LIMIT, and with OFFSET 0 or none
+-- outputs and WHERE without aggregates, and without GROUP BY, HAVING, ORDER BY and LIMIT, and with OFFSET 0 or none
 unfoldable pub is_lowered : Query → Bool
 is_lowered q =
     are_lowered_outs q.outs

@@ -1,4 +1,5 @@
 pub mod Forms
+pub mod Operands
 pub mod Emitting
 pub mod Listing
 pub mod Ends

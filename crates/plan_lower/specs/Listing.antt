@@ -115,6 +115,10 @@ of_one_text word m a = under_text word m ++ operand_text a
 abbrev pub of_two_text : List ℕ → ℕ → ℕ → ℕ → List ℕ
 of_two_text word m a b = under_text word m ++ operand_text a ++ operand_text b
 
+-- a word, the mask, what is asked for, and the value
+abbrev pub asked_text : List ℕ → ℕ → List ℕ → ℕ → List ℕ
+asked_text word m what a = under_text word m ++ codes " " ++ what ++ operand_text a
+
 -- what a register is made from
 unfoldable pub made_text : Instr → List ℕ
 made_text instr.all = codes "all"
@@ -127,16 +131,16 @@ made_text (instr.const m v) = under_text (codes "const") m ++ codes " " ++ const
 made_text (instr.bin m o a b) = of_two_text (op_text o) m a b
 made_text (instr.neg m a) = of_one_text (codes "neg") m a
 made_text (instr.not m a) = of_one_text (codes "not") m a
-made_text (instr.is m w a) = under_text (codes "is") m ++ codes " " ++ what_text w ++ operand_text a
+made_text (instr.is m w a) = asked_text (codes "is") m (what_text w) a
 made_text (instr.first m a b) = of_two_text (codes "first") m a b
 made_text (instr.merge m k a b) = under_text (codes "merge") m ++ codes " " ++ mask_name k ++ operand_text a ++ operand_text b
 made_text (instr.matching m h a s) = of_one_text (how_text h) m a ++ codes " " ++ in_quotes 39 s
-made_text (instr.cast m c a) = under_text (codes "cast") m ++ codes " " ++ to_text c ++ operand_text a
+made_text (instr.cast m c a) = asked_text (codes "cast") m (to_text c) a
 made_text (instr.length m f a) = of_one_text (func_text f) m a
 made_text (instr.unix m f a) = of_one_text (func_text f) m a
-made_text (instr.trunc m p a) = under_text (codes "trunc") m ++ codes " " ++ part_text p ++ operand_text a
-made_text (instr.extract m p a) = under_text (codes "extract") m ++ codes " " ++ part_text p ++ operand_text a
-made_text (instr.shift m p n a) = under_text (codes "shift") m ++ codes " " ++ part_text p ++ operand_text n ++ operand_text a
+made_text (instr.trunc m p a) = asked_text (codes "trunc") m (part_text p) a
+made_text (instr.extract m p a) = asked_text (codes "extract") m (part_text p) a
+made_text (instr.shift m p n a) = asked_text (codes "shift") m (part_text p) n ++ operand_text a
 
 -- a text and the end of its line
 abbrev pub line : List ℕ → List ℕ

@@ -1,24 +1,24 @@
-//! From expressions to instructions.
-ghost use Rattle.std.specs.Prelude.{◌≡◌, ◌<◌, ℕ, [], ◌∷◌, IfOk, map, length, slice_get, Some, true};
-ghost use Rattle.tree_meaning.specs.Tree.{lit, path, no, bin, is};
-ghost use Rattle.tree_meaning.specs.WellFormed.{IsLiteral, IsFormed};
-ghost use Rattle.eval_meaning.specs.Paths.{step_of};
-ghost use Rattle.program_meaning.specs.Programs.{mask_count, value_count};
-ghost use Rattle.snel_values.specs.View.{view as value_view};
-ghost use Rattle.query_tree.specs.View.{view, step_view};
-ghost use Rattle.plan_lower.specs.Forms.{is_lowered_op, is_lowered_ex};
-ghost use Rattle.plan_lower.specs.Emitting.{IsBegun, Emits, Applies};
+//! From expressions to instructions: each form puts the instructions of its operands, and its own behind them.
+ghost use Rattle.std.specs.Prelude.{◌≡◌, ◌<◌, length, IfOk, Some};
+ghost use Rattle.tree_meaning.specs.Tree.{member, between, choice, call, exs, arms};
+ghost use Rattle.tree_meaning.specs.WellFormed.{IsFormed, AreFormed, ArmsAreFormed, HasArm, TakesArguments};
+ghost use Rattle.program_meaning.specs.Programs.{value_count};
+ghost use Rattle.query_tree.specs.View.{view, arm_view};
+ghost use Rattle.plan_lower.specs.Operands.{operand_of, operands_of};
+ghost use Rattle.plan_lower.specs.Emitting.{IsBegun, Emits, EmitsAll, Compares, Keeps, Picks};
 
-use lane_ssa::{Builder, Instr};
-use query_tree::{Expr, Operand};
-use snel_values::{OutOfMemory, Step, Steps, Value};
+use crate::choice::{Picked, arm_at, put_merge, put_minus, put_true};
+use crate::functions::put_call;
+use crate::operators::{put_bin, put_member, put_one, put_two};
+use crate::paths::{emit_literal, emit_path};
+use lane_ssa::{Builder, Registers};
+use query_tree::{Arm, Arms, Expr, Exprs, Operand};
+use snel_values::{OutOfMemory, Value};
 use std::alloc::Global;
-use tree_meaning::{BinOp, IsWhat};
+use tree_meaning::{BinOp, Func};
 
-/// The value register of the row, which each program makes first.
-const ROW: u32 = 0;
-
-/// Adds the instructions of an expression under a mask; the register that shows its value in the lanes of the mask.
+/// Adds the instructions of an expression under a mask; the register that shows its value in the lanes of the mask. Each form
+/// has a function of its own, so that the frames of a deep tree are small. An aggregate is MISSING on any one row.
 #[cycle(emit)]
 pub(crate) fn emit_expr(
     alloc: Global,
@@ -27,136 +27,230 @@ pub(crate) fn emit_expr(
     mask: u32,
 ) -> Result<u32, OutOfMemory>
     requires begun { IsBegun builder.old mask }
-    requires lowered { is_lowered_ex (view expr.now) ≡ true }
     requires formed { IsFormed (view expr.now) }
     ensures { IfOk result (λ r. Emits builder.old builder.new (view expr.now) mask r) }
 {
     match expr {
         Expr::Lit(value) => emit_literal(alloc, builder, value, mask),
         Expr::Path { row: _, steps } => emit_path(alloc, builder, steps, mask),
-        Expr::Not(of) => emit_not(alloc, builder, of, mask),
-        Expr::Bin { op, left, right } => emit_bin(alloc, builder, *op, left, right, mask),
-        Expr::Is { what, of } => emit_is(alloc, builder, *what, of, mask),
-        _ => unreachable!(),
+        Expr::Neg(of) => emit_one(alloc, builder, expr, of, mask),
+        Expr::Not(of) => emit_one(alloc, builder, expr, of, mask),
+        Expr::Bin { op: _, left, right } => emit_two(alloc, builder, expr, left, right, mask),
+        Expr::Is { what: _, of } => emit_one(alloc, builder, expr, of, mask),
+        Expr::In { of, list } => emit_in(alloc, builder, of, list, mask),
+        Expr::Between { of, low, high } => emit_between(alloc, builder, of, low, high, mask),
+        Expr::Match { how: _, of, text: _ } => emit_one(alloc, builder, expr, of, mask),
+        Expr::Case { arms, other } => emit_case(alloc, builder, arms, other, mask),
+        Expr::Cast { of, to: _ } => emit_one(alloc, builder, expr, of, mask),
+        Expr::Call { name, args } => emit_call(alloc, builder, *name, args, mask),
+        Expr::Trunc { part: _, of } => emit_one(alloc, builder, expr, of, mask),
+        Expr::Extract { part: _, of } => emit_one(alloc, builder, expr, of, mask),
+        Expr::Shift { part: _, count, of } => emit_two(alloc, builder, expr, count, of, mask),
+        Expr::Agg { .. } => emit_literal(alloc, builder, &Value::Missing, mask),
     }
 }
 
+/// A form of one operand.
 #[cycle(emit)]
-fn emit_not(
+fn emit_one(
     alloc: Global,
     builder: &mut Builder,
+    expr: &Expr,
     of: &Operand,
     mask: u32,
 ) -> Result<u32, OutOfMemory>
     requires begun { IsBegun builder.old mask }
-    requires lowered { is_lowered_ex of.now ≡ true }
-    requires formed { IsFormed of.now }
-    ensures { IfOk result (λ r. Emits builder.old builder.new (no of.now) mask r) }
+    requires operand { operand_of (view expr.now) ≡ Some of.now }
+    requires formed { IsFormed (view expr.now) }
+    ensures { IfOk result (λ r. Emits builder.old builder.new (view expr.now) mask r) }
 {
     let of = emit_expr(alloc, builder, of.get(), mask)?;
-    builder.put(Instr::Not { mask, of })
+    put_one(alloc, builder, expr, of, mask)
 }
 
+/// A form of two operands.
 #[cycle(emit)]
-fn emit_is(
+fn emit_two(
     alloc: Global,
     builder: &mut Builder,
-    what: IsWhat,
-    of: &Operand,
+    expr: &Expr,
+    first: &Operand,
+    second: &Operand,
     mask: u32,
 ) -> Result<u32, OutOfMemory>
     requires begun { IsBegun builder.old mask }
-    requires lowered { is_lowered_ex of.now ≡ true }
-    requires formed { IsFormed of.now }
-    ensures { IfOk result (λ r. Emits builder.old builder.new (is what of.now) mask r) }
+    requires operands { operands_of (view expr.now) ≡ Some (first.now, second.now) }
+    requires formed { IsFormed (view expr.now) }
+    ensures { IfOk result (λ r. Emits builder.old builder.new (view expr.now) mask r) }
 {
-    let of = emit_expr(alloc, builder, of.get(), mask)?;
-    builder.put(Instr::Is { mask, what, of })
+    let a = emit_expr(alloc, builder, first.get(), mask)?;
+    let b = emit_expr(alloc, builder, second.get(), mask)?;
+    put_two(builder, expr, a, b, mask)
 }
 
+/// `of IN (list)`: the operand and the members, each once, and then what finds it among them.
 #[cycle(emit)]
-fn emit_bin(
+fn emit_in(
+    alloc: Global,
+    builder: &mut Builder,
+    of: &Operand,
+    list: &Exprs,
+    mask: u32,
+) -> Result<u32, OutOfMemory>
+    requires begun { IsBegun builder.old mask }
+    requires formed { IsFormed of.now }
+    requires list { AreFormed (exs list.now) }
+    requires members { 0 < length list.now }
+    ensures { IfOk result
+        (λ r. Emits builder.old builder.new (member of.now (exs list.now)) mask r) }
+{
+    let of = emit_expr(alloc, builder, of.get(), mask)?;
+    let members = emit_list(alloc, builder, list, mask)?;
+    put_member(builder, of, &members, mask)
+}
+
+/// `of BETWEEN low AND high`: the operand once, and then its comparison with each bound.
+#[cycle(emit)]
+fn emit_between(
+    alloc: Global,
+    builder: &mut Builder,
+    of: &Operand,
+    low: &Operand,
+    high: &Operand,
+    mask: u32,
+) -> Result<u32, OutOfMemory>
+    requires begun { IsBegun builder.old mask }
+    requires formed { IsFormed of.now }
+    requires low { IsFormed low.now }
+    requires high { IsFormed high.now }
+    ensures { IfOk result
+        (λ r. Emits builder.old builder.new (between of.now low.now high.now) mask r) }
+{
+    let of = emit_expr(alloc, builder, of.get(), mask)?;
+    let above = emit_compared(alloc, builder, BinOp::Ge, of, low, mask)?;
+    let below = emit_compared(alloc, builder, BinOp::Le, of, high, mask)?;
+    put_bin(builder, BinOp::And, above, below, mask)
+}
+
+/// An operator of a register and an expression.
+#[cycle(emit)]
+fn emit_compared(
     alloc: Global,
     builder: &mut Builder,
     op: BinOp,
-    left: &Operand,
-    right: &Operand,
+    of: u32,
+    with: &Operand,
     mask: u32,
 ) -> Result<u32, OutOfMemory>
     requires begun { IsBegun builder.old mask }
-    requires op { is_lowered_op op ≡ true }
-    requires left_lowered { is_lowered_ex left.now ≡ true }
-    requires right_lowered { is_lowered_ex right.now ≡ true }
-    requires left_formed { IsFormed left.now }
-    requires right_formed { IsFormed right.now }
-    ensures { IfOk result (λ r. Emits builder.old builder.new (bin op left.now right.now) mask r) }
-{
-    let a = emit_expr(alloc, builder, left.get(), mask)?;
-    let b = emit_expr(alloc, builder, right.get(), mask)?;
-    builder.put(Instr::Bin { mask, op, a, b })
-}
-
-fn emit_literal(
-    alloc: Global,
-    builder: &mut Builder,
-    value: &Value,
-    mask: u32,
-) -> Result<u32, OutOfMemory>
-    requires mask { mask < mask_count builder.old }
-    requires literal { IsLiteral (value_view value.now) }
-    ensures { IfOk result (λ r. Emits builder.old builder.new (lit (value_view value.now)) mask r) }
-{
-    let value = value.copy(alloc)?;
-    builder.put(Instr::Const { mask, value })
-}
-
-/// A path from the row: an instruction for each step.
-fn emit_path(
-    alloc: Global,
-    builder: &mut Builder,
-    steps: &Steps,
-    mask: u32,
-) -> Result<u32, OutOfMemory>
-    requires { IsBegun builder.old mask }
-    ensures { IfOk result
-        (λ r. Emits builder.old builder.new (path 0 (map step_view steps.now)) mask r) }
-{
-    let mut of = ROW;
-    for at in 0..steps.len() {
-        of = emit_step(alloc, builder, step_at(steps, at), of, mask)?;
-    }
-    Ok(of)
-}
-
-/// One step of a path, from the value of a register.
-fn emit_step(
-    alloc: Global,
-    builder: &mut Builder,
-    step: &Step,
-    of: u32,
-    mask: u32,
-) -> Result<u32, OutOfMemory>
-    requires mask { mask < mask_count builder.old }
     requires of { of < value_count builder.old }
-    ensures { IfOk result
-        (λ r. Applies builder.old builder.new (step_of (step_view step.now)) mask of r) }
+    requires formed { IsFormed with.now }
+    ensures { IfOk result (λ r. Compares builder.old builder.new op of with.now mask r) }
 {
-    match step {
-        Step::Name(name) => {
-            let name = name.copy(alloc)?;
-            builder.put(Instr::Field { mask, of, name })
-        }
-        Step::At(at) => builder.put(Instr::At { mask, of, at: *at }),
-    }
+    let with = emit_expr(alloc, builder, with.get(), mask)?;
+    put_bin(builder, op, of, with, mask)
 }
 
-/// The step of a path at a place, counted from 0.
-fn step_at(steps: &Steps, at: usize) -> &Step
-    requires { at < length steps.now }
-    ensures { slice_get steps.now at ≡ Some result.now }
+/// CASE: the arms in their order, each under the mask of the lanes in which no earlier one was taken; and ELSE in those that
+/// are left behind the last.
+#[cycle(emit)]
+fn emit_case(
+    alloc: Global,
+    builder: &mut Builder,
+    list: &Arms,
+    other: &Operand,
+    mask: u32,
+) -> Result<u32, OutOfMemory>
+    requires begun { IsBegun builder.old mask }
+    requires arms { ArmsAreFormed (arms list.now) }
+    requires arm { 0 < length list.now }
+    requires formed { IsFormed other.now }
+    ensures { IfOk result
+        (λ r. Emits builder.old builder.new (choice (arms list.now) other.now) mask r) }
 {
-    match steps.get(at) {
-        Some(step) => step,
-        None => unreachable!(),
+    let first = emit_arm(alloc, builder, arm_at(list, 0), mask)?;
+    let mut shown = first.value;
+    let mut left = put_minus(builder, mask, first.pick)?;
+    for at in 1..list.len() {
+        let arm = emit_arm(alloc, builder, arm_at(list, at), left)?;
+        shown = put_merge(builder, arm.pick, arm.value, shown, mask)?;
+        left = put_minus(builder, left, arm.pick)?;
     }
+    let other = emit_expr(alloc, builder, other.get(), left)?;
+    put_merge(builder, left, other, shown, mask)
+}
+
+/// An arm of CASE: its condition under the mask, and its value in the lanes in which that is true.
+#[cycle(emit)]
+fn emit_arm(
+    alloc: Global,
+    builder: &mut Builder,
+    arm: &Arm,
+    mask: u32,
+) -> Result<Picked, OutOfMemory>
+    requires begun { IsBegun builder.old mask }
+    requires test { IsFormed arm.now.test }
+    requires value { IsFormed arm.now.value }
+    ensures { IfOk result
+        (λ p. Picks builder.old builder.new (arm_view arm.now) mask p.pick p.value) }
+{
+    let pick = emit_test(alloc, builder, &arm.test, mask)?;
+    let value = emit_expr(alloc, builder, arm.value.get(), pick)?;
+    Ok(Picked { pick, value })
+}
+
+/// A condition: the mask of the lanes of a mask in which it is true.
+#[cycle(emit)]
+pub(crate) fn emit_test(
+    alloc: Global,
+    builder: &mut Builder,
+    test: &Operand,
+    mask: u32,
+) -> Result<u32, OutOfMemory>
+    requires begun { IsBegun builder.old mask }
+    requires formed { IsFormed test.now }
+    ensures { IfOk result (λ k. Keeps builder.old builder.new (Some test.now) mask k) }
+{
+    let of = emit_expr(alloc, builder, test.get(), mask)?;
+    put_true(builder, of, mask)
+}
+
+/// A function: its operands, and then what it makes of them.
+#[cycle(emit)]
+fn emit_call(
+    alloc: Global,
+    builder: &mut Builder,
+    name: Func,
+    args: &Exprs,
+    mask: u32,
+) -> Result<u32, OutOfMemory>
+    requires begun { IsBegun builder.old mask }
+    requires formed { AreFormed (exs args.now) }
+    requires count { TakesArguments name (length args.now) }
+    ensures { IfOk result (λ r. Emits builder.old builder.new (call name (exs args.now)) mask r) }
+{
+    let args = emit_list(alloc, builder, args, mask)?;
+    put_call(builder, name, &args, mask)
+}
+
+/// Expressions, one behind the other; the register of each.
+#[cycle(emit)]
+fn emit_list(
+    alloc: Global,
+    builder: &mut Builder,
+    list: &Exprs,
+    mask: u32,
+) -> Result<Registers, OutOfMemory>
+    requires begun { IsBegun builder.old mask }
+    requires formed { AreFormed (exs list.now) }
+    ensures { IfOk result (λ rs. EmitsAll builder.old builder.new list.now mask rs) }
+{
+    let mut registers = Registers::new(alloc);
+    for at in 0..list.len() {
+        let Some(of) = list.get(at) else {
+            unreachable!();
+        };
+        registers.push(emit_expr(alloc, builder, of.get(), mask)?)?;
+    }
+    Ok(registers)
 }

@@ -8,12 +8,15 @@ ghost use Rattle.lane_ssa.specs.Views.{instr_view};
 ghost use Rattle.plan_lower.specs.Listing as spec;
 ghost use Rattle.plan_lower.specs.Constants.{HasConstant};
 
-use crate::pieces::{op_word, put_mask, put_operand, put_under, put_value, what_word};
+use crate::pieces::{
+    func_word, how_word, op_word, part_word, put_mask, put_operand, put_under, put_value, to_word,
+    what_word,
+};
 use itoa::Buffer;
 use lane_ssa::Instr;
 use snel_values::{Bytes, OutOfMemory, Text, Value};
-use sql_pieces::{put, put_digits, put_literal, put_name};
-use tree_meaning::{BinOp, IsWhat};
+use sql_pieces::{put, put_digits, put_literal, put_name, put_string};
+use tree_meaning::{How, Part};
 
 /// The lines of the instructions of a program.
 pub(crate) fn put_program(text: &mut Bytes, instrs: &[Instr]) -> Result<(), OutOfMemory>
@@ -87,10 +90,31 @@ fn put_made(text: &mut Bytes, instr: &Instr) -> Result<(), OutOfMemory>
         Instr::Field { mask, of, name } => put_field(text, *mask, *of, name),
         Instr::At { mask, of, at } => put_at(text, *mask, *of, *at),
         Instr::Const { mask, value } => put_const(text, *mask, value),
+        Instr::Bin { mask, op, a, b } => put_two(text, op_word(*op), *mask, *a, *b),
+        Instr::Neg { mask, of } => put_simple(text, "neg", *mask, *of),
         Instr::Not { mask, of } => put_simple(text, "not", *mask, *of),
-        Instr::Is { mask, what, of } => put_is(text, *mask, *what, *of),
-        Instr::Bin { mask, op, a, b } => put_bin(text, *mask, *op, *a, *b),
+        Instr::Is { mask, what, of } => put_with(text, "is", *mask, what_word(*what), *of),
+        Instr::First { mask, a, b } => put_two(text, "first", *mask, *a, *b),
         Instr::Merge { mask, pick, a, b } => put_merge(text, *mask, *pick, *a, *b),
+        Instr::Match {
+            mask,
+            how,
+            of,
+            pattern,
+        } => put_match(text, *mask, *how, *of, pattern),
+        Instr::Cast { mask, to, of } => put_with(text, "cast", *mask, to_word(*to), *of),
+        Instr::Length { mask, name, of } => put_simple(text, func_word(*name), *mask, *of),
+        Instr::Unix { mask, name, of } => put_simple(text, func_word(*name), *mask, *of),
+        Instr::Trunc { mask, part, of } => put_with(text, "trunc", *mask, part_word(*part), *of),
+        Instr::Extract { mask, part, of } => {
+            put_with(text, "extract", *mask, part_word(*part), *of)
+        }
+        Instr::Shift {
+            mask,
+            part,
+            count,
+            of,
+        } => put_shift(text, *mask, *part, *count, *of),
     }
 }
 
@@ -150,25 +174,6 @@ fn put_at(text: &mut Bytes, mask: u32, of: u32, at: u32) -> Result<(), OutOfMemo
 }
 
 #[tactic(auto, unfolding(crate::specs::Listing::made_text))]
-fn put_is(text: &mut Bytes, mask: u32, what: IsWhat, of: u32) -> Result<(), OutOfMemory>
-    ensures { OnOk result (text.new ≡ text.old ++ spec.made_text (program.is mask what of)) }
-{
-    put_under(text, "is", mask)?;
-    put(text, " ")?;
-    put(text, what_word(what))?;
-    put_operand(text, of)
-}
-
-#[tactic(auto, unfolding(crate::specs::Listing::made_text))]
-fn put_bin(text: &mut Bytes, mask: u32, op: BinOp, a: u32, b: u32) -> Result<(), OutOfMemory>
-    ensures { OnOk result (text.new ≡ text.old ++ spec.made_text (program.bin mask op a b)) }
-{
-    put_under(text, op_word(op), mask)?;
-    put_operand(text, a)?;
-    put_operand(text, b)
-}
-
-#[tactic(auto, unfolding(crate::specs::Listing::made_text))]
 fn put_minus(text: &mut Bytes, mask: u32, less: u32) -> Result<(), OutOfMemory>
     ensures { OnOk result (text.new ≡ text.old ++ spec.made_text (program.minus mask less)) }
 {
@@ -193,5 +198,61 @@ fn put_simple(text: &mut Bytes, word: &str, mask: u32, of: u32) -> Result<(), Ou
     ensures { OnOk result (text.new ≡ text.old ++ spec.of_one_text word.now mask of) }
 {
     put_under(text, word, mask)?;
+    put_operand(text, of)
+}
+
+/// The same of two values.
+fn put_two(text: &mut Bytes, word: &str, mask: u32, a: u32, b: u32) -> Result<(), OutOfMemory>
+    ensures { OnOk result (text.new ≡ text.old ++ spec.of_two_text word.now mask a b) }
+{
+    put_under(text, word, mask)?;
+    put_operand(text, a)?;
+    put_operand(text, b)
+}
+
+/// The word, the mask, what the instruction asks for, and the value.
+fn put_with(
+    text: &mut Bytes,
+    word: &str,
+    mask: u32,
+    what: &str,
+    of: u32,
+) -> Result<(), OutOfMemory>
+    ensures { OnOk result (text.new ≡ text.old ++ spec.asked_text word.now mask what.now of) }
+{
+    put_under(text, word, mask)?;
+    put(text, " ")?;
+    put(text, what)?;
+    put_operand(text, of)
+}
+
+#[tactic(auto, unfolding(crate::specs::Listing::made_text))]
+fn put_match(
+    text: &mut Bytes,
+    mask: u32,
+    how: How,
+    of: u32,
+    pattern: &Text,
+) -> Result<(), OutOfMemory>
+    ensures { OnOk result (text.new ≡ text.old
+        ++ spec.made_text (program.matching mask how of pattern.now)) }
+{
+    put_simple(text, how_word(how), mask, of)?;
+    put(text, " ")?;
+    put_string(text, pattern.as_str())
+}
+
+#[tactic(auto, unfolding(crate::specs::Listing::made_text))]
+fn put_shift(
+    text: &mut Bytes,
+    mask: u32,
+    part: Part,
+    count: u32,
+    of: u32,
+) -> Result<(), OutOfMemory>
+    ensures { OnOk result (text.new ≡ text.old
+        ++ spec.made_text (program.shift mask part count of)) }
+{
+    put_with(text, "shift", mask, part_word(part), count)?;
     put_operand(text, of)
 }

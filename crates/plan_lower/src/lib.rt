@@ -2,12 +2,16 @@
 //! `lower(alloc, &checked)?`, and [`listing`] the text of a job.
 #![tactic(auto)]
 
+mod choice;
 mod emitting;
 mod end_lines;
 mod forms;
+mod functions;
 mod instr_lines;
 mod job_text;
 mod lowering;
+mod operators;
+mod paths;
 mod pieces;
 
 pub use forms::is_lowered;

@@ -1,6 +1,5 @@
 //! From accepted queries to jobs.
 ghost use Rattle.std.specs.Prelude.{◌≡◌, ◌<◌, ◌∷◌, [], IfOk, IfSome, All, length, slice_get, Some, true};
-ghost use Rattle.std.specs.List.{list_all};
 ghost use Rattle.tree_meaning.specs.WellFormed.{IsFormed, IsOutput, AreOutputs};
 ghost use Rattle.check_meaning.specs.Names as named;
 ghost use Rattle.check_meaning.specs.Places.{output_exs};
@@ -9,12 +8,12 @@ ghost use Rattle.program_meaning.specs.Simulation.{Simulates};
 ghost use Rattle.program_meaning.specs.Simulation as simulation;
 ghost use Rattle.query_tree.specs.Parts.{item_view};
 ghost use Rattle.query_tree.specs.Queries.{outs_view};
-ghost use Rattle.plan_lower.specs.Forms.{is_lowered_output, are_lowered_outs, is_lowered_filter, is_lowered};
+ghost use Rattle.plan_lower.specs.Forms.{is_lowered};
 ghost use Rattle.plan_lower.specs.Emitting.{IsBegun, EmitsAll, Keeps};
 ghost use Rattle.plan_lower.specs.Ends.{exs_of, names_of, registers_of, plain_ends};
 ghost use Rattle.lane_ssa.specs.Views.{ends_view};
 
-use crate::emitting::emit_expr;
+use crate::emitting::{emit_expr, emit_test};
 use lane_ssa::{Builder, EndAggs, EndOut, EndOuts, Ends, Instr, Job, Registers};
 use query_check::{Checked, Names};
 use query_tree::{Item, Operand, OutItems, Outputs};
@@ -57,16 +56,12 @@ fn emit_filter(
     mask: u32,
 ) -> Result<u32, OutOfMemory>
     requires begun { IsBegun builder.old mask }
-    requires lowered { is_lowered_filter filter.now ≡ true }
     requires formed { IfSome filter.now IsFormed }
     ensures { IfOk result (λ k. Keeps builder.old builder.new filter.now mask k) }
 {
     match filter {
         None => Ok(mask),
-        Some(test) => {
-            let of = emit_expr(alloc, builder, test.get(), mask)?;
-            builder.put(Instr::True { mask, of })
-        }
+        Some(test) => emit_test(alloc, builder, test, mask),
     }
 }
 
@@ -80,7 +75,6 @@ fn emit_outs(
 ) -> Result<EndOuts, OutOfMemory>
     requires begun { IsBegun builder.old mask }
     requires names { names.now ≡ named.names (outs_view outputs.now) }
-    requires lowered { are_lowered_outs (outs_view outputs.now) ≡ true }
     requires formed { AreOutputs (outs_view outputs.now) }
     ensures names { IfOk result (λ outs. names_of outs ≡ names.now) }
     ensures emitted { IfOk result (λ outs. EmitsAll builder.old builder.new
@@ -102,7 +96,6 @@ fn emit_items(
 ) -> Result<EndOuts, OutOfMemory>
     requires begun { IsBegun builder.old mask }
     requires names { length names.now ≡ length items.now }
-    requires lowered { list_all is_lowered_output items.now ≡ true }
     requires formed { All IsOutput items.now }
     ensures names { IfOk result (λ outs. names_of outs ≡ names.now) }
     ensures emitted { IfOk result (λ outs. EmitsAll builder.old builder.new

@@ -4,7 +4,7 @@ ghost use Rattle.plan_lower.specs.Listing as spec;
 
 use snel_values::{Bytes, OutOfMemory};
 use sql_pieces::{put, put_digits};
-use tree_meaning::{AggName, BinOp, IsWhat};
+use tree_meaning::{AggName, BinOp, CastTo, Func, How, IsWhat, Part};
 
 /// The name of a mask register.
 pub(crate) fn put_mask(text: &mut Bytes, number: u64) -> Result<(), OutOfMemory>
@@ -69,6 +69,59 @@ pub(crate) fn what_word(what: IsWhat) -> &'static str
         IsWhat::Missing => "missing",
         IsWhat::True => "true",
         IsWhat::False => "false",
+    }
+}
+
+#[tactic(auto, unfolding(crate::specs::Listing::how_text))]
+pub(crate) fn how_word(how: How) -> &'static str
+    ensures { result.now ≡ spec.how_text how }
+{
+    match how {
+        How::Like => "like",
+        How::ILike => "ilike",
+        How::Starts => "starts",
+        How::Ends => "ends",
+        How::Contains => "contains",
+    }
+}
+
+#[tactic(auto, unfolding(crate::specs::Listing::to_text))]
+pub(crate) fn to_word(to: CastTo) -> &'static str
+    ensures { result.now ≡ spec.to_text to }
+{
+    match to {
+        CastTo::Integer => "integer",
+        CastTo::Boolean => "boolean",
+    }
+}
+
+#[tactic(auto, unfolding(crate::specs::Listing::func_text))]
+pub(crate) fn func_word(name: Func) -> &'static str
+    ensures { result.now ≡ spec.func_text name }
+{
+    match name {
+        Func::Coalesce => "coalesce",
+        Func::NullIf => "nullif",
+        Func::CharLength => "charlength",
+        Func::UnixEpoch => "unixepoch",
+        Func::UnixMicro => "unixmicro",
+    }
+}
+
+#[tactic(auto, unfolding(crate::specs::Listing::part_text))]
+pub(crate) fn part_word(part: Part) -> &'static str
+    ensures { result.now ≡ spec.part_text part }
+{
+    match part {
+        Part::Microsecond => "microsecond",
+        Part::Second => "second",
+        Part::Minute => "minute",
+        Part::Hour => "hour",
+        Part::Day => "day",
+        Part::Week => "week",
+        Part::Month => "month",
+        Part::Quarter => "quarter",
+        Part::Year => "year",
     }
 }
 

@@ -1,18 +1,14 @@
 use Rattle.std.proofs.Common.{◌∙◌, ap, sym, subst}
 use Rattle.tree_meaning.specs.WellFormed.{IsFormed, IsOutput}
 use Rattle.query_tree.specs.Parts.{item_view}
-use Rattle.plan_lower.specs.Forms.{is_lowered_ex, is_lowered_output}
 use Rattle.plan_lower.specs.Emitting.{Emits}
-use Rattle.plan_lower.proofs.Items.{all_at, passes_at}
-use Rattle.plan_lower.proofs.Emissions.{stays_begun, named_more, outputs_more}
+use Rattle.plan_lower.proofs.Items.{all_at}
+use Rattle.plan_lower.proofs.Outputs.{named_more, outputs_more}
+use Rattle.plan_lower.proofs.Showing.{stays_begun}
 use Rattle.plan_lower.proofs.lowering.emit_items.Goals as goal
 
 pub emit_expr-requires-clause-begun : goal.emit_expr-requires-clause-begun
 emit_expr-requires-clause-begun c = stays_begun c.args.builder.now c.loop-at.builder c.args.mask c.requires.begun c.loop-at.invariant.1.extends
-
-pub emit_expr-requires-clause-lowered : goal.emit_expr-requires-clause-lowered
-emit_expr-requires-clause-lowered c =
-    ap is_lowered_ex c.get.ensures ∙ passes_at is_lowered_output c.args.items.now c.loop-at.at (item_view c.item_at.result.now) c.item_at.ensures c.requires.lowered
 
 pub emit_expr-requires-clause-formed : goal.emit_expr-requires-clause-formed
 emit_expr-requires-clause-formed c =

@@ -5,17 +5,10 @@ use Rattle.program_meaning.specs.Programs.{mask_count, value_count, IsProgram}
 use Rattle.program_meaning.specs.Jobs.{AreEnds}
 use Rattle.program_meaning.specs.Simulation.{Simulates}
 use Rattle.query_tree.specs.Queries.{query_view}
-use Rattle.plan_lower.specs.Forms.{are_lowered_outs, is_lowered_filter, is_lowered}
+use Rattle.plan_lower.specs.Forms.{is_lowered}
 use Rattle.plan_lower.specs.Ends.{plain_ends}
-use Rattle.plan_lower.proofs.PlainQueries.{lowered_is_plain}
 use Rattle.plan_lower.proofs.PlainJobs.{are_ends, simulates}
 use Rattle.plan_lower.proofs.lowering.lower.Goals as goal
-
-pub emit_filter-requires-clause-lowered : goal.emit_filter-requires-clause-lowered
-emit_filter-requires-clause-lowered c = ap (λ (q : Query). is_lowered_filter q.filter) c.query-query.ensures.is ∙ (lowered_is_plain c.args.checked.now c.requires).filter
-
-pub emit_outs-requires-clause-lowered : goal.emit_outs-requires-clause-lowered
-emit_outs-requires-clause-lowered c = ap (λ (q : Query). are_lowered_outs q.outs) c.query-query.ensures.is ∙ (lowered_is_plain c.args.checked.now c.requires).outs
 
 pub finish-requires : goal.finish-requires
 finish-requires c =

@@ -1,6 +1,6 @@
 use Rattle.query_tree.specs.View.{step_view}
-use Rattle.plan_lower.proofs.Emissions.{row_computed, path_goes_on}
-use Rattle.plan_lower.proofs.emitting.emit_path.Goals as goal
+use Rattle.plan_lower.proofs.PathValues.{row_computed, path_goes_on}
+use Rattle.plan_lower.proofs.paths.emit_path.Goals as goal
 
 pub loop-at-init : goal.loop-at-init
 loop-at-init c = row_computed c.args.builder.now c.args.mask c.requires
