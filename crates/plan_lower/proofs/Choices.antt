@@ -7,10 +7,10 @@ use Rattle.eval_meaning.specs.Logic.{is_true, choice_of}
 use Rattle.eval_meaning.specs.Pair.{Pair}
 use Rattle.eval_meaning.specs.Evaluation.{eval, choices}
 use Rattle.program_meaning.specs.Instructions.{Instr}
-use Rattle.program_meaning.specs.Programs.{mask_count, value_count, Extends}
+use Rattle.program_meaning.specs.Programs.{mask_count}
 use Rattle.program_meaning.specs.Registers.{Lane, after, mask_at, value_at}
 use Rattle.program_meaning.proofs.Persist.{extends_further, mask_stays, value_stays}
-use Rattle.plan_lower.specs.Emitting.{Shows, Emits, Keeps, Picks, Chooses, Leaves, Merges}
+use Rattle.plan_lower.specs.Emitting.{Emits, Keeps, Picks, Chooses, Leaves, Merges}
 use Rattle.plan_lower.proofs.Items.{take_more, whole}
 use Rattle.plan_lower.proofs.Showing.{ap2, mask_known, value_known, shows_behind, stays_in}
 

@@ -1,9 +1,6 @@
 -- The value of a form is what it makes of the values of its operands.
-use Rattle.std.proofs.Common.{◌≡◌, refl, ap, sym, ◌∙◌, List, [], ◌∷◌, map, Some, None, Option}
-use Rattle.std.specs.Prelude.{unwrap_or}
-use Rattle.value_meaning.specs.Val.{Val}
+use Rattle.std.proofs.Common.{◌≡◌, refl, ap, sym, List, [], ◌∷◌, map, Some}
 use Rattle.tree_meaning.specs.Tree.{Ex, lit, path, neg, no, bin, is, member, between, matching, choice, cast, call, trunc, extract, shift, agg_of_rows, agg, exs, items}
-use Rattle.tree_meaning.specs.WellFormed.{IsFormed}
 use Rattle.eval_meaning.specs.Pair.{Pair}
 use Rattle.eval_meaning.specs.Evaluation.{eval, evals}
 use Rattle.plan_lower.specs.Operands.{operand_of, of_operand, operands_of, of_operands}

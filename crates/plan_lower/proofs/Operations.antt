@@ -1,25 +1,25 @@
 -- Operators, IN, BETWEEN and functions: what stands behind their operands shows their value.
-use Rattle.std.proofs.Common.{◌≡◌, ℕ, ◌+◌, ◌<◌, refl, ap, sym, subst, ◌∙◌, List, [], ◌∷◌, ◌++◌, map, take, Some, All, cond, ◌&&◌}
+use Rattle.std.proofs.Common.{◌≡◌, ℕ, ◌+◌, ◌<◌, ap, sym, subst, ◌∙◌, List, [], ◌∷◌, ◌++◌, take, Some, cond, ◌&&◌}
 use Rattle.std.proofs.lemmas.List.{map-append}
 use Rattle.std.specs.Prelude.{slice_get}
-use Rattle.value_meaning.specs.Val.{Val, null}
+use Rattle.value_meaning.specs.Val.{null}
 use Rattle.tree_meaning.specs.declared.BinOp.{BinOp}
 use Rattle.tree_meaning.specs.declared.BinOp.TheVariants as op
 use Rattle.tree_meaning.specs.declared.Func.{Func}
 use Rattle.tree_meaning.specs.Tree.{Ex, member, between, call, exs}
 use Rattle.eval_meaning.specs.Logic.{coalesce, first_of, or_of, and_of, is_true}
 use Rattle.eval_meaning.specs.Comparisons.{member_of, compare, null_if}
-use Rattle.eval_meaning.specs.Evaluation.{binary, call_of, eval, evals}
+use Rattle.eval_meaning.specs.Evaluation.{binary, call_of, eval}
 use Rattle.program_meaning.specs.Instructions.{Instr}
-use Rattle.program_meaning.specs.Programs.{mask_count, value_count, Extends}
-use Rattle.program_meaning.specs.Registers.{Lane, after, mask_at, value_at}
+use Rattle.program_meaning.specs.Programs.{mask_count, value_count}
+use Rattle.program_meaning.specs.Registers.{after, mask_at, value_at}
 use Rattle.program_meaning.proofs.Persist.{extends_further, mask_stays, value_stays}
 use Rattle.plan_lower.specs.Emitting.{HasValues, values_in, Shows, Emits, Applies, AppliesTwo, AppliesAll, AppliesAmong, Compares, EmitsAll, Holds, Merges}
 use Rattle.plan_lower.specs.Operands.{operand_of, of_operand, operands_of, of_operands}
 use Rattle.plan_lower.proofs.Items.{take_more, all_at}
 use Rattle.plan_lower.proofs.Operands.{value_of_one, value_of_two, values_of}
 use Rattle.plan_lower.proofs.Members.{member_of_one, member_of_more, coalesce_one, coalesce_more}
-use Rattle.plan_lower.proofs.Showing.{ap2, values_stay, stays_in, shows_behind, shows_same, shows_here}
+use Rattle.plan_lower.proofs.Showing.{ap2, stays_in, shows_behind, shows_same, shows_here}
 
 module _ (old : List Instr) (m : ℕ) (known : m < mask_count old) where
   -- a form of one operand

@@ -1,16 +1,15 @@
 -- Expressions and outputs, one behind the other.
-use Rattle.std.proofs.Common.{◌≡◌, ℕ, ◌+◌, ◌<◌, refl, ap, sym, subst, ◌∙◌, List, [], ◌∷◌, ◌++◌, length, length-append, map, take, Option, Some, All}
+use Rattle.std.proofs.Common.{◌≡◌, ℕ, ◌+◌, ◌<◌, refl, ap, sym, subst, ◌∙◌, List, [], ◌∷◌, ◌++◌, length-append, take, Option, Some}
 use Rattle.std.specs.Prelude.{slice_get}
 use Rattle.std.proofs.lemmas.List.{map-append}
 use Rattle.std.proofs.lemmas.List.Elements.{All-push}
-use Rattle.std.proofs.Math.ListN.{get_or}
 use Rattle.value_meaning.specs.Val.{Val}
 use Rattle.tree_meaning.specs.Tree.{Ex}
 use Rattle.eval_meaning.specs.Evaluation.{eval}
 use Rattle.program_meaning.specs.Instructions.{Instr}
-use Rattle.program_meaning.specs.Programs.{mask_count, value_count, Extends}
-use Rattle.program_meaning.specs.Registers.{Lane, after, value_at}
-use Rattle.program_meaning.proofs.Persist.{extends_itself, extends_further, mask_stays, value_stays}
+use Rattle.program_meaning.specs.Programs.{mask_count, value_count}
+use Rattle.program_meaning.specs.Registers.{after, value_at}
+use Rattle.program_meaning.proofs.Persist.{extends_itself, extends_further, mask_stays}
 use Rattle.plan_lower.specs.Emitting.{Emits, EmitsAll}
 use Rattle.plan_lower.specs.Ends.{exs_of, names_of, registers_of}
 use Rattle.plan_lower.proofs.Items.{all_nil, take_more}

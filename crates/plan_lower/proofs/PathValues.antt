@@ -8,7 +8,7 @@ use Rattle.eval_meaning.specs.Evaluation.{eval}
 use Rattle.eval_meaning.specs.Paths.{step_of, path_of}
 use Rattle.program_meaning.specs.Instructions.{Instr}
 use Rattle.program_meaning.specs.Instructions as instr
-use Rattle.program_meaning.specs.Programs.{mask_count, Extends}
+use Rattle.program_meaning.specs.Programs.{mask_count}
 use Rattle.program_meaning.specs.Registers.{after, value_at}
 use Rattle.plan_lower.specs.Emitting.{IsBegun, Emits, Applies}
 use Rattle.plan_lower.proofs.Items.{take_more}

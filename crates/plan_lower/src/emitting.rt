@@ -39,7 +39,11 @@ pub(crate) fn emit_expr(
         Expr::Is { what: _, of } => emit_one(alloc, builder, expr, of, mask),
         Expr::In { of, list } => emit_in(alloc, builder, of, list, mask),
         Expr::Between { of, low, high } => emit_between(alloc, builder, of, low, high, mask),
-        Expr::Match { how: _, of, text: _ } => emit_one(alloc, builder, expr, of, mask),
+        Expr::Match {
+            how: _,
+            of,
+            text: _,
+        } => emit_one(alloc, builder, expr, of, mask),
         Expr::Case { arms, other } => emit_case(alloc, builder, arms, other, mask),
         Expr::Cast { of, to: _ } => emit_one(alloc, builder, expr, of, mask),
         Expr::Call { name, args } => emit_call(alloc, builder, *name, args, mask),

@@ -47,11 +47,7 @@ pub(crate) fn put_call(
 }
 
 /// COALESCE: the first of the first two, of that and the third, and so on.
-fn put_first(
-    builder: &mut Builder,
-    args: &Registers,
-    mask: u32,
-) -> Result<u32, OutOfMemory>
+fn put_first(builder: &mut Builder, args: &Registers, mask: u32) -> Result<u32, OutOfMemory>
     requires mask { mask < mask_count builder.old }
     requires values { HasValues builder.old args.now }
     requires some { 0 < length args.now }
@@ -66,12 +62,7 @@ fn put_first(
 }
 
 /// NULLIF: NULL where the two are equal, and elsewhere the first.
-fn put_null_if(
-    builder: &mut Builder,
-    a: u32,
-    b: u32,
-    mask: u32,
-) -> Result<u32, OutOfMemory>
+fn put_null_if(builder: &mut Builder, a: u32, b: u32, mask: u32) -> Result<u32, OutOfMemory>
     requires mask { mask < mask_count builder.old }
     requires a { a < value_count builder.old }
     requires b { b < value_count builder.old }

@@ -211,13 +211,7 @@ fn put_two(text: &mut Bytes, word: &str, mask: u32, a: u32, b: u32) -> Result<()
 }
 
 /// The word, the mask, what the instruction asks for, and the value.
-fn put_with(
-    text: &mut Bytes,
-    word: &str,
-    mask: u32,
-    what: &str,
-    of: u32,
-) -> Result<(), OutOfMemory>
+fn put_with(text: &mut Bytes, word: &str, mask: u32, what: &str, of: u32) -> Result<(), OutOfMemory>
     ensures { OnOk result (text.new ≡ text.old ++ spec.asked_text word.now mask what.now of) }
 {
     put_under(text, word, mask)?;

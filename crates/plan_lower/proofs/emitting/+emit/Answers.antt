@@ -1,11 +1,10 @@
-use Rattle.std.proofs.Common.{◌≡◌, ℕ, ◌+◌, ◌*◌, ◌<◌, refl, ap, sym, subst, ◌∙◌, arith, Some, IfOk, length, ◌≤◌}
-use Rattle.tree_meaning.specs.Tree.{Ex, size, exs, arms, member, between, choice, call}
+use Rattle.std.proofs.Common.{ap, sym, subst, arith, length, ◌≤◌}
+use Rattle.tree_meaning.specs.Tree.{size, exs, call}
 use Rattle.tree_meaning.specs.WellFormed.{IsFormed, TakesArguments}
 use Rattle.query_tree.specs.View.{view, arm_view}
-use Rattle.plan_lower.specs.Emitting.{IsBegun, Emits, Compares, Keeps, EmitsAll}
-use Rattle.plan_lower.specs.Operands.{operand_of, operands_of}
-use Rattle.plan_lower.proofs.Showing.{if_ok, mask_known, stays_begun, begun_under, keeps_holding}
-use Rattle.plan_lower.proofs.FormedParts.{operand_formed, operands_formed, ex_formed, ex_smaller, arm_formed, arm_smaller, counted_operands}
+use Rattle.plan_lower.specs.Emitting.{Emits}
+use Rattle.plan_lower.proofs.Showing.{if_ok, stays_begun, begun_under, keeps_holding}
+use Rattle.plan_lower.proofs.FormedParts.{ex_formed, ex_smaller, arm_formed, arm_smaller, counted_operands}
 use Rattle.plan_lower.proofs.Operations.{one_shown, two_shown, compared_shown, between_shown, member_shown, call_shown}
 use Rattle.plan_lower.proofs.Choices.{arm_picks, first_arm, next_arm, last_arm}
 use Rattle.plan_lower.proofs.Outputs.{listed_more}

@@ -1,5 +1,4 @@
-use Rattle.std.proofs.Common.{◌≡◌, ℕ, refl, ap, sym, subst, IfOk, [], ◌∷◌, length}
-use Rattle.tree_meaning.specs.declared.Func.{Func}
+use Rattle.std.proofs.Common.{◌≡◌, refl, sym, subst, IfOk, [], ◌∷◌, length}
 use Rattle.tree_meaning.specs.declared.Func.TheVariants as func
 use Rattle.tree_meaning.specs.WellFormed.{TakesArguments}
 use Rattle.eval_meaning.specs.Evaluation.{call_of}

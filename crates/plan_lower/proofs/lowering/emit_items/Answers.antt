@@ -1,4 +1,4 @@
-use Rattle.std.proofs.Common.{◌∙◌, ap, sym, subst}
+use Rattle.std.proofs.Common.{sym, subst}
 use Rattle.tree_meaning.specs.WellFormed.{IsFormed, IsOutput}
 use Rattle.query_tree.specs.Parts.{item_view}
 use Rattle.plan_lower.specs.Emitting.{Emits}

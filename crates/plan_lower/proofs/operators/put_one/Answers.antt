@@ -1,5 +1,4 @@
-use Rattle.std.proofs.Common.{refl, ap, sym, subst, ◌∙◌, IfOk}
-use Rattle.tree_meaning.specs.Tree.{Ex}
+use Rattle.std.proofs.Common.{refl, sym, subst, IfOk}
 use Rattle.eval_meaning.specs.Logic.{not_of, is_of}
 use Rattle.eval_meaning.specs.Numbers.{negative}
 use Rattle.eval_meaning.specs.Casts.{cast_of}
