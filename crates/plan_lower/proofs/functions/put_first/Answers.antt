@@ -8,8 +8,8 @@ use Rattle.plan_lower.proofs.Operations.{first_operand, next_operand}
 use Rattle.plan_lower.proofs.Showing.{mask_known, value_known, shows_last}
 use Rattle.plan_lower.proofs.functions.put_first.Goals as goal
 
-pub put-requires-clause-names : goal.put-requires-clause-names
-put-requires-clause-names c =
+pub put-requires : goal.put-requires
+put-requires c =
     let old = c.args.builder.now in
     let mid = c.loop-at.builder in
     let h = c.loop-at.invariant in (
