@@ -240,15 +240,28 @@ fn ends(alloc: Global) -> Ends
     }
 }
 
-/// A job of the seven values and of one more, value 7.
+/// The seven values, and one more, value 7.
+fn build(alloc: Global, builder: &mut Builder, k: u32) -> Result<(), OutOfMemory>
+    requires masks { mask_count builder.old ≡ 0 }
+    requires values { value_count builder.old ≡ 0 }
+    ensures masks { IfOk result (λ _. mask_count builder.new ≡ 3) }
+    ensures values { IfOk result (λ _. value_count builder.new ≡ 8) }
+{
+    fields(alloc, builder)?;
+    more(alloc, builder)?;
+    builder.put(case(k))?;
+    Ok(())
+}
+
+/// The job of these.
 fn job(alloc: Global, k: u32) -> Option<Job>
     ensures { IfSome result (λ j. value_count j.program ≡ 8) }
 {
     let mut builder = Builder::new(alloc);
-    fields(alloc, &mut builder).ok()?;
-    more(alloc, &mut builder).ok()?;
-    builder.put(case(k)).ok()?;
-    Some(builder.finish(ends(alloc)))
+    match build(alloc, &mut builder, k) {
+        Ok(()) => Some(builder.finish(ends(alloc))),
+        Err(_) => None,
+    }
 }
 
 fn is_look(look: Look<'_>, wanted: Look<'_>) -> bool {
