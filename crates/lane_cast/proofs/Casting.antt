@@ -1,6 +1,6 @@
 -- A cast at one lane.
-use Rattle.std.proofs.Common.{◌≡◌, ℕ, refl, ap, ◌∙◌, sym, subst, Bool, true, false, cond, not, ◌&&◌}
-use Rattle.value_meaning.specs.Val.{Val, missing, null, truth}
+use Rattle.std.proofs.Common.{◌≡◌, ℕ, refl, ap, ◌∙◌, sym, subst, Bool, true, false, not, ◌&&◌}
+use Rattle.value_meaning.specs.Val.{Val, missing, null}
 use Rattle.eval_meaning.specs.Logic.{is_null}
 use Rattle.eval_meaning.specs.Operands.{of_one}
 use Rattle.block_meaning.specs.Tables.{Table}

@@ -1,9 +1,9 @@
 -- Results in the range of a row's numbers.
-use Rattle.std.proofs.Common.{◌≡◌, ℕ, zero, suc, ℤ, pos, neg_ℤ, ◌-ℤ◌, replicate, refl, sym, ap, ◌∙◌, arith, Bool, true, false, cond, not, subst, ◌*ℤ◌, FitsSigned, w64, to_z, of_z, to_z-of_z}
+use Rattle.std.proofs.Common.{◌≡◌, ℕ, zero, suc, ℤ, pos, neg_ℤ, ◌-ℤ◌, replicate, refl, sym, ap, ◌∙◌, arith, Bool, true, false, not, subst, ◌*ℤ◌, FitsSigned, w64, to_z, of_z, to_z-of_z}
 use Rattle.std.specs.Bool.{FalseIff}
 use Rattle.std.specs.Int.{int_wrap, int_wrapping_mul}
 use Rattle.std.proofs.lemmas.Int.{ints, wrapping_mul_is, SFits-int_wrap, int_wrap_fits}
-use Rattle.value_meaning.specs.Val.{Val, missing, int}
+use Rattle.value_meaning.specs.Val.{missing, int}
 use Rattle.eval_meaning.specs.Numbers.{fits, fitted}
 use Rattle.lane_base.specs.Registers.{number_at}
 use Rattle.lane_cast.specs.Made.{number_if}

@@ -1,5 +1,5 @@
 -- The steps of a loop that makes a number in some lanes.
-use Rattle.std.proofs.Common.{◌≡◌, ◌≢◌, ℕ, ℤ, ◌<◌, ◌+◌, ◌*◌, ◌%◌, ◌^◌, refl, ap, sym, ◌∙◌, arith, Bool, true, false, cond, List, length, nat_lt, bit_or, slice_set, ⊎_elim, get_or-set_same, get_or-set_other}
+use Rattle.std.proofs.Common.{◌≡◌, ◌≢◌, ℕ, ℤ, ◌<◌, ◌+◌, ◌*◌, ◌%◌, ◌^◌, refl, ap, ◌∙◌, arith, Bool, true, false, cond, List, length, nat_lt, bit_or, slice_set, ⊎_elim, get_or-set_same, get_or-set_other}
 use Rattle.std.proofs.lemmas.Bool.{cases_eq, lt-ltb, le-ltb}
 use Rattle.value_meaning.specs.Val.{Val, missing, int}
 use Rattle.lane_base.specs.Bits.{has}
@@ -30,9 +30,9 @@ pub Shows-made : (ok : ℕ) (nums : List ℤ) (i : ℕ) (f : ℕ → Val) (z : �
 Shows-made ok nums i f z low within shows e k =
     ⊎_elim
     (λ (same : k ≡ i).
-        let on : has (bit_or ok (1 * 2 ^ i % 2 ^ 16)) k ≡ true = rw same (has-set_same ok i low) in
-        let lt : nat_lt k (i + 1) ≡ true = rw same (lt_here i) in
-        rw (on, lt, same, get_or-set_same) e)
+    let on : has (bit_or ok (1 * 2 ^ i % 2 ^ 16)) k ≡ true = rw same (has-set_same ok i low) in
+    let lt : nat_lt k (i + 1) ≡ true = rw same (lt_here i) in
+    rw (on, lt, same, get_or-set_same) e)
     (λ (ne : k ≢ i). rw (has-set_other ok i k low ne, lt_more k i ne, get_or-set_other) (shows k))
     (cases_eq k i)
 
@@ -41,9 +41,9 @@ pub Shows-none_made : (ok : ℕ) (nums : List ℤ) (i : ℕ) (f : ℕ → Val) (
 Shows-none_made ok nums i f z within shows e k =
     ⊎_elim
     (λ (same : k ≡ i).
-        let off : has ok k ≡ false = rw same (free ok nums i f shows) in
-        let lt : nat_lt k (i + 1) ≡ true = rw same (lt_here i) in
-        rw (off, lt, same) e)
+    let off : has ok k ≡ false = rw same (free ok nums i f shows) in
+    let lt : nat_lt k (i + 1) ≡ true = rw same (lt_here i) in
+    rw (off, lt, same) e)
     (λ (ne : k ≢ i). rw (lt_more k i ne, get_or-set_other) (shows k))
     (cases_eq k i)
 
@@ -51,9 +51,9 @@ pub Shows-skip : (ok : ℕ) (nums : List ℤ) (i : ℕ) (f : ℕ → Val) → Sh
 Shows-skip ok nums i f shows e k =
     ⊎_elim
     (λ (same : k ≡ i).
-        let off : has ok k ≡ false = rw same (free ok nums i f shows) in
-        let lt : nat_lt k (i + 1) ≡ true = rw same (lt_here i) in
-        rw (off, lt, same) e)
+    let off : has ok k ≡ false = rw same (free ok nums i f shows) in
+    let lt : nat_lt k (i + 1) ≡ true = rw same (lt_here i) in
+    rw (off, lt, same) e)
     (λ (ne : k ≢ i). rw (lt_more k i ne) (shows k))
     (cases_eq k i)
 

@@ -1,7 +1,7 @@
 -- Arithmetic at one lane.
-use Rattle.std.proofs.Common.{◌≡◌, ℕ, ℤ, List, refl, ap, ◌∙◌, sym, Bool, true, false, cond, not, ◌&&◌, ◌||◌}
+use Rattle.std.proofs.Common.{◌≡◌, ℕ, ℤ, List, refl, ap, ◌∙◌, Bool, true, false, cond, not, ◌&&◌, ◌||◌}
 use Rattle.value_meaning.specs.Val.{Val, missing, null, int}
-use Rattle.eval_meaning.specs.Logic.{is_null, is_missing}
+use Rattle.eval_meaning.specs.Logic.{is_missing}
 use Rattle.eval_meaning.specs.Operands.{on_number, on_numbers, of_one, of_two}
 use Rattle.block_meaning.specs.Tables.{Table}
 use Rattle.lane_base.specs.declared.lanes.Lanes.{Lanes}

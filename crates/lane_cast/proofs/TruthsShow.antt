@@ -1,5 +1,5 @@
 -- The steps of a loop that makes a truth value in some lanes.
-use Rattle.std.proofs.Common.{◌≡◌, ◌≢◌, ℕ, ◌<◌, ◌+◌, ◌*◌, ◌%◌, ◌^◌, refl, ap, sym, ◌∙◌, arith, Bool, true, false, cond, nat_lt, bit_or, ⊎_elim}
+use Rattle.std.proofs.Common.{◌≡◌, ◌≢◌, ℕ, ◌<◌, ◌+◌, ◌*◌, ◌%◌, ◌^◌, refl, ap, ◌∙◌, arith, Bool, true, false, cond, nat_lt, bit_or, ⊎_elim}
 use Rattle.std.proofs.lemmas.Bool.{cases_eq, lt-ltb, le-ltb}
 use Rattle.value_meaning.specs.Val.{Val, missing, truth}
 use Rattle.lane_base.specs.Bits.{has}
@@ -33,9 +33,9 @@ pub TruthsShow-true : (yeses noes i : ℕ) (f : ℕ → Val) → i < 16 → Trut
 TruthsShow-true yeses noes i f low shows e k =
     ⊎_elim
     (λ (same : k ≡ i).
-        let on : has (bit_or yeses (1 * 2 ^ i % 2 ^ 16)) k ≡ true = rw same (has-set_same yeses i low) in
-        let lt : nat_lt k (i + 1) ≡ true = rw same (lt_here i) in
-        rw (on, lt, same) e)
+    let on : has (bit_or yeses (1 * 2 ^ i % 2 ^ 16)) k ≡ true = rw same (has-set_same yeses i low) in
+    let lt : nat_lt k (i + 1) ≡ true = rw same (lt_here i) in
+    rw (on, lt, same) e)
     (λ (ne : k ≢ i). rw (has-set_other yeses i k low ne, lt_more k i ne) (shows k))
     (cases_eq k i)
 
@@ -43,10 +43,10 @@ pub TruthsShow-false : (yeses noes i : ℕ) (f : ℕ → Val) → i < 16 → Tru
 TruthsShow-false yeses noes i f low shows e k =
     ⊎_elim
     (λ (same : k ≡ i).
-        let off : has yeses k ≡ false = rw same (not_true (has yeses i) (has noes i) (free yeses noes i f shows)) in
-        let on : has (bit_or noes (1 * 2 ^ i % 2 ^ 16)) k ≡ true = rw same (has-set_same noes i low) in
-        let lt : nat_lt k (i + 1) ≡ true = rw same (lt_here i) in
-        rw (off, on, lt, same) e)
+    let off : has yeses k ≡ false = rw same (not_true (has yeses i) (has noes i) (free yeses noes i f shows)) in
+    let on : has (bit_or noes (1 * 2 ^ i % 2 ^ 16)) k ≡ true = rw same (has-set_same noes i low) in
+    let lt : nat_lt k (i + 1) ≡ true = rw same (lt_here i) in
+    rw (off, on, lt, same) e)
     (λ (ne : k ≢ i). rw (has-set_other noes i k low ne, lt_more k i ne) (shows k))
     (cases_eq k i)
 
@@ -54,9 +54,9 @@ pub TruthsShow-skip : (yeses noes i : ℕ) (f : ℕ → Val) → TruthsShow yese
 TruthsShow-skip yeses noes i f shows e k =
     ⊎_elim
     (λ (same : k ≡ i).
-        let nothing : truth_as false (has yeses k) (has noes k) ≡ missing = rw same (free yeses noes i f shows) in
-        let lt : nat_lt k (i + 1) ≡ true = rw same (lt_here i) in
-        nothing ∙ rw (lt, same) e)
+    let nothing : truth_as false (has yeses k) (has noes k) ≡ missing = rw same (free yeses noes i f shows) in
+    let lt : nat_lt k (i + 1) ≡ true = rw same (lt_here i) in
+    nothing ∙ rw (lt, same) e)
     (λ (ne : k ≢ i). rw (lt_more k i ne) (shows k))
     (cases_eq k i)
 

@@ -94,7 +94,13 @@ fn one(op: BinOp, x: i64, y: i64) -> (i64, bool)
             Some(quotient) => (quotient, true),
             None => (0, false),
         },
-        BinOp::Rem => { if y == 0 { (0, false) } else { (x.wrapping_rem(y), true) } }
+        BinOp::Rem => {
+            if y == 0 {
+                (0, false)
+            } else {
+                (x.wrapping_rem(y), true)
+            }
+        }
         _ => (0, false),
     }
 }

@@ -1,12 +1,10 @@
 -- A comparison at one lane.
-use Rattle.std.proofs.Common.{◌≡◌, ℕ, ℤ, List, refl, ap, ◌∙◌, sym, Bool, true, false, cond, not, ◌&&◌, ◌||◌, Option, None}
+use Rattle.std.proofs.Common.{◌≡◌, ℕ, ℤ, List, refl, ap, ◌∙◌, Bool, true, false, cond, not, ◌&&◌, ◌||◌, None}
 use Rattle.std.specs.Ordering.{bool_cmp, int_cmp, nat_cmp}
 use Rattle.std.specs.Cmp.Lexicographic.{slice_cmp}
-use Rattle.std.specs.declared.cmp.Ordering.{Ordering}
-use Rattle.std.specs.Prelude.{if◌then◌else◌}
 use Rattle.tree_meaning.specs.declared.BinOp.{BinOp}
-use Rattle.value_meaning.specs.Val.{Val, missing, null, truth, int, time, text, list, struct}
-use Rattle.eval_meaning.specs.Logic.{is_null, is_missing}
+use Rattle.value_meaning.specs.Val.{Val, missing, truth, int, time, text}
+use Rattle.eval_meaning.specs.Logic.{is_missing}
 use Rattle.eval_meaning.specs.Comparisons.{order_of, meets, compared, compare}
 use Rattle.block_meaning.specs.Tables.{Table}
 use Rattle.lane_base.specs.declared.lanes.Lanes.{Lanes}
@@ -15,7 +13,7 @@ use Rattle.lane_base.specs.Shown.{IsLegal}
 use Rattle.lane_base.specs.Registers.{under, truth_as, shown, value_at, number_at, span_at}
 use Rattle.lane_compare.specs.Operands.{is_null_of_two}
 use Rattle.lane_compare.proofs.StrictLanes.{strict, truth_as-strict}
-use Rattle.lane_compare.proofs.Reading.{reads, Reads, gone, unknown, holds, fails, number, moment, string, items, fields}
+use Rattle.lane_compare.proofs.Reading.{reads, Reads, holds, fails, number, moment, string}
 
 or_false : (b : Bool) → (b || false) ≡ b
 or_false true = refl
@@ -88,7 +86,7 @@ module _ (op : BinOp) (table : Table) (a b : Lanes) (i : ℕ) where
       → truth_as n ((both && (m && not n)) && met tm nm xm) ((both && (m && not n)) && not ((both && (m && not n)) && met tm nm xm)) ≡ under m (compare op v w)
   compare_value m n tm nm xm p q e f g h =
       let lane : (m ≡ true) → cond both (truth (met (meets op (bool_cmp (has a.yes.0 i) (has b.yes.0 i))) (meets op (int_cmp (number_at a.nums.lanes i) (number_at b.nums.lanes i))) ((has a.text.0 i && has b.text.0 i) && meets op (slice_cmp nat_cmp (span_at a.spans.lanes i) (span_at b.spans.lanes i))))) missing ≡ compared op (order_of v w) =
-          λ t. compared_lane op (reads table a i (p t)) (reads table b i (q t)) in
+      λ t. compared_lane op (reads table a i (p t)) (reads table b i (q t)) in
       truth_as-strict n (both && (m && not n)) (met tm nm xm)
       ∙ strict (λ c d. compared op (order_of c d)) v w m n both (truth (met tm nm xm)) e
       (λ t. both_false op both _ v w (lane t))

@@ -1,5 +1,5 @@
 -- An operator of two operands at one lane, by the tests of the lane.
-use Rattle.std.proofs.Common.{◌≡◌, refl, sym, ◌∙◌, Bool, true, false, cond, not, ◌&&◌, ◌||◌}
+use Rattle.std.proofs.Common.{◌≡◌, refl, Bool, true, false, cond, not, ◌&&◌, ◌||◌}
 use Rattle.std.specs.Prelude.{if◌then◌else◌}
 use Rattle.value_meaning.specs.Val.{Val, missing, null, truth}
 use Rattle.eval_meaning.specs.Logic.{is_null, is_missing}

@@ -1,7 +1,10 @@
 -- What `<` and `==` of two numbers say of their order.
-use Rattle.std.proofs.Common.{◌≡◌, ◌≢◌, ℤ, arith, refl, Bool, true, false, ◌&&◌}
+use Rattle.std.proofs.Common.{◌≡◌, ◌≢◌, ℕ, ℤ, List, sym, arith, refl, Bool, true, false, ◌&&◌}
 use Rattle.std.specs.Prelude.{◌<ℤ◌, ◌≤ℤ◌}
-use Rattle.std.specs.Ordering.{int_cmp, is_lt, is_eq}
+use Rattle.std.specs.Ordering.{int_cmp, nat_cmp, is_lt, is_eq}
+use Rattle.std.specs.Cmp.Lexicographic.{slice_cmp}
+use Rattle.std.specs.Str.{bytes_eq}
+use Rattle.std.proofs.lemmas.Map.Text.{is_eq-slice_cmp}
 use Rattle.std.proofs.lemmas.Int.{ints}
 
 pub less_true : (x y : ℤ) → x <ℤ y → is_lt (int_cmp x y) ≡ true
@@ -28,3 +31,7 @@ first_fails false q e = refl
 pub second_fails : (p q : Bool) → q ≡ false → (p && q) ≡ false
 second_fails true q e = e
 second_fails false q e = refl
+
+-- texts are the same where none comes first
+pub same_bytes : (xs ys : List ℕ) → bytes_eq xs ys ≡ is_eq (slice_cmp nat_cmp xs ys)
+same_bytes xs ys = sym (is_eq-slice_cmp xs ys)

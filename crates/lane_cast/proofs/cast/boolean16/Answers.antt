@@ -1,7 +1,7 @@
-use Rattle.std.proofs.Common.{◌≡◌, ◌∙◌, refl, not, ◌&&◌, false}
+use Rattle.std.proofs.Common.{◌∙◌, refl, not, ◌&&◌, false}
 use Rattle.eval_meaning.specs.Casts.{to_boolean}
 use Rattle.lane_base.specs.Bits.{has}
-use Rattle.lane_base.specs.Registers.{value_at, truth_as, AreLegalIn}
+use Rattle.lane_base.specs.Registers.{value_at, truth_as}
 use Rattle.lane_base.proofs.LaneKinds.{null_lane}
 use Rattle.lane_cast.proofs.Casting.{strict_one, truth_as-made, legal_rest}
 use Rattle.lane_cast.proofs.cast.boolean16.Goals as goal

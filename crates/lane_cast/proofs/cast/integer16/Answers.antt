@@ -1,8 +1,8 @@
-use Rattle.std.proofs.Common.{◌≡◌, ◌∙◌, refl, not, ◌&&◌}
+use Rattle.std.proofs.Common.{◌∙◌, refl, not, ◌&&◌}
 use Rattle.value_meaning.specs.Val.{int}
 use Rattle.eval_meaning.specs.Casts.{to_integer}
 use Rattle.lane_base.specs.Bits.{has}
-use Rattle.lane_base.specs.Registers.{value_at, number_at, AreLegalIn}
+use Rattle.lane_base.specs.Registers.{value_at, number_at}
 use Rattle.lane_base.proofs.LaneKinds.{null_lane}
 use Rattle.lane_compare.proofs.StrictLanes.{one_as-strict}
 use Rattle.lane_cast.specs.Made.{made_at}

@@ -1,4 +1,4 @@
-use Rattle.std.proofs.Common.{◌≡◌, ◌∙◌, true}
+use Rattle.std.proofs.Common.{◌∙◌}
 use Rattle.eval_meaning.specs.Numbers.{computed}
 use Rattle.lane_base.specs.Bits.{has}
 use Rattle.lane_base.specs.Registers.{number_at}

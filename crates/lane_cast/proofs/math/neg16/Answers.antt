@@ -1,4 +1,4 @@
-use Rattle.std.proofs.Common.{◌≡◌, ◌∙◌, ap, ℤ, neg_ℤ, ◌-ℤ◌}
+use Rattle.std.proofs.Common.{◌∙◌, ap, ℤ, neg_ℤ, ◌-ℤ◌}
 use Rattle.eval_meaning.specs.Numbers.{fitted}
 use Rattle.lane_base.specs.Bits.{has}
 use Rattle.lane_base.specs.Registers.{number_at}

@@ -1,4 +1,4 @@
-use Rattle.std.proofs.Common.{rules, refl, ap, sym, ◌∙◌, ◌≡◌, ◌<◌, arith, length, length-set, FitsSigned, w64, to_z, of_z, to_z-of_z}
+use Rattle.std.proofs.Common.{rules, refl, ap, sym, ◌∙◌, ◌<◌, arith, length, length-set, FitsSigned, w64, to_z-of_z}
 use Rattle.eval_meaning.specs.Numbers as spec
 use Rattle.lane_base.specs.Registers.{number_at}
 use Rattle.lane_cast.specs.Made.{number_if}

@@ -1,4 +1,4 @@
-use Rattle.std.proofs.Common.{rules, refl, ap, sym, ◌∙◌, ◌≡◌, ◌<◌, arith, true, false, cond, length, length-set, FitsSigned, w64, to_z, of_z, to_z-of_z}
+use Rattle.std.proofs.Common.{rules, refl, ap, sym, ◌∙◌, ◌≡◌, ◌<◌, arith, true, false, cond, length, length-set, FitsSigned, w64, to_z-of_z}
 use Rattle.value_meaning.specs.Val.{missing}
 use Rattle.eval_meaning.specs.Numbers as spec
 use Rattle.lane_base.specs.Bits.{has}

@@ -1,4 +1,4 @@
-use Rattle.std.proofs.Common.{◌≡◌, ◌∙◌}
+use Rattle.std.proofs.Common.{◌∙◌}
 use Rattle.lane_base.specs.Bits.{has}
 use Rattle.lane_base.proofs.BitLemmas.{has-and, has-or}
 use Rattle.lane_compare.proofs.Ordered.{compare_value}

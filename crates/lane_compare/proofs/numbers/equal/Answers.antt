@@ -1,4 +1,4 @@
-use Rattle.std.proofs.Common.{rules, ◌≡◌, ap, arith, true, false, of_z, w64, FitsSigned}
+use Rattle.std.proofs.Common.{rules, ◌≡◌, ap, arith, of_z, w64, FitsSigned}
 use Rattle.std.specs.Ordering.{int_cmp, is_eq}
 use Rattle.std.proofs.lemmas.Int.{ints}
 use Rattle.lane_base.specs.Registers.{number_at}
