@@ -1,6 +1,8 @@
 //! Times, what their parts begin with and show, and what is added to them. The expected values were computed by another
 //! program's calendar.
 
+ghost use Rattle.std.specs.Prelude.{◌<◌};
+
 use crate::{extract16, shift16, trunc16, unix16};
 use lane_base::{IntLanes, LaneMask, Lanes, Look};
 use tree_meaning::{Func, Part};
@@ -417,6 +419,16 @@ fn as_times(nums: [i64; 16]) -> Lanes<'static> {
     Lanes::times(LaneMask::none(), LaneMask::all(), IntLanes { lanes: nums })
 }
 
+// The lane, which is below 16, shows the time, or MISSING.
+fn shows_time(lanes: &Lanes<'_>, lane: u32, wanted: Option<i64>) -> bool
+    requires { lane < 16 }
+{
+    match wanted {
+        Some(time) => lanes.look(lane) == Look::Time(time),
+        None => lanes.look(lane) == Look::Missing,
+    }
+}
+
 // Each lane shows the time.
 fn shows_times(lanes: &Lanes<'_>, wanted: &[i64; 16]) -> bool {
     for i in 0..16usize {
@@ -467,8 +479,7 @@ fn days_are_added(rt: HostRuntime) {
     for (count, time, wanted) in &SUMS {
         let counts = Lanes::ints(LaneMask::none(), all, IntLanes { lanes: [*count; 16] });
         let sums = shift16(Part::Day, &counts, &as_times([*time; 16]), LaneMask(0x0080));
-        let shown = wanted.map_or(Look::Missing, Look::Time);
-        assert!(rt; sums.look(7) == shown, "{count} days");
-        assert!(rt; sums.look(8) == Look::Missing, "outside the mask");
+        assert!(rt; shows_time(&sums, 7, *wanted), "{count} days");
+        assert!(rt; shows_time(&sums, 8, None), "outside the mask");
     }
 }
