@@ -1,3 +1,4 @@
+pub mod FarSums
 pub mod Filled
 pub mod SetBits
 pub mod ShiftLanes

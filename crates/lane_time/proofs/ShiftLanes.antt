@@ -1,8 +1,8 @@
 -- What DATE_ADD gives at one lane.
 use Rattle.std.proofs.Common.{◌≡◌, ℕ, ℤ, pos, List, refl, ap, ◌∙◌, sym, Bool, true, false, cond, not, ◌&&◌, ◌||◌}
-use Rattle.std.specs.Prelude.{if◌then◌else◌, ◌+ℤ◌, ◌*ℤ◌, Option, Some}
+use Rattle.std.specs.Prelude.{if◌then◌else◌, ◌+ℤ◌, ◌*ℤ◌, Some}
 use Rattle.value_meaning.specs.Val.{Val, missing, null, int, time}
-use Rattle.time_meaning.specs.Moments.{IsTime, is_time}
+use Rattle.time_meaning.specs.Moments.{is_time}
 use Rattle.block_meaning.specs.Tables.{Table}
 use Rattle.block_meaning.specs.CellReading.{cell_value}
 use Rattle.eval_meaning.specs.Logic.{is_null, is_missing}

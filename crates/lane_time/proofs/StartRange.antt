@@ -1,5 +1,5 @@
 -- The start of a part of a time in range lies in range: the calendar's first moment starts each part.
-use Rattle.std.proofs.Common.{◌≡◌, ℤ, pos, neg_ℤ, refl, ap, sym, ◌∙◌, arith}
+use Rattle.std.proofs.Common.{◌≡◌, ℤ, pos, neg_ℤ, refl, ap, sym, arith}
 use Rattle.jiff_core.specs.Calendar.{days_from_civil, weekday_number, day_count}
 use Rattle.jiff_core.proofs.MarchLemmas.{day_count-early}
 use Rattle.jiff_core.proofs.CalendarLemmas.{days_from_civil-day_count}

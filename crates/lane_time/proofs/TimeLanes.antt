@@ -1,6 +1,6 @@
 -- What an operator on times gives at one lane.
-use Rattle.std.proofs.Common.{◌≡◌, ℕ, ℤ, List, arith, refl, ap, ◌∙◌, sym, Bool, true, false, cond, ◌&&◌}
-use Rattle.std.specs.Prelude.{if◌then◌else◌, int_le}
+use Rattle.std.proofs.Common.{◌≡◌, ℕ, ℤ, List, arith, refl, ap, ◌∙◌, sym, Bool, true, false, ◌&&◌}
+use Rattle.std.specs.Prelude.{if◌then◌else◌}
 use Rattle.std.proofs.lemmas.Int.{ints}
 use Rattle.value_meaning.specs.Val.{Val, missing, null, time}
 use Rattle.time_meaning.specs.Moments.{IsTime, is_time}

@@ -1,5 +1,5 @@
 -- What TO_UNIX_EPOCH and TO_UNIX_MICRO give at one lane.
-use Rattle.std.proofs.Common.{◌≡◌, ℕ, ℤ, pos, [], ◌∷◌, Bool, true, ◌&&◌}
+use Rattle.std.proofs.Common.{◌≡◌, ℕ, pos, [], ◌∷◌, Bool, true, ◌&&◌}
 use Rattle.std.specs.Int.{int_div_euclid}
 use Rattle.value_meaning.specs.Val.{Val, int, time}
 use Rattle.time_meaning.specs.Moments.{IsTime}

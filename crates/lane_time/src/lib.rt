@@ -8,10 +8,10 @@ mod dates;
 mod each;
 mod extract;
 mod shift;
-mod trunc;
-mod unix;
 #[cfg(test)]
 mod tests;
+mod trunc;
+mod unix;
 
 pub use extract::extract16;
 pub use shift::shift16;

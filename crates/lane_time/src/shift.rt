@@ -89,7 +89,8 @@ fn sum_of(length: u64, count: i64, time: i64) -> i128
     requires { length ≤ 604_800_000_000 }
     ensures { result ≡ time +ℤ count *ℤ pos length }
 {
-    i128::from(time) + i128::from(count) * i128::from(length)
+    let distance = i128::from(count) * i128::from(length);
+    i128::from(time) + distance
 }
 
 // Whether the calendar's range has the time.

@@ -1,6 +1,8 @@
 //! Times, what their parts begin with and show, and what is added to them. The expected values were computed by another
 //! program's calendar.
 
+ghost use Rattle.std.specs.Prelude.{◌<◌};
+
 use crate::{extract16, shift16, trunc16, unix16};
 use lane_base::{IntLanes, LaneMask, Lanes, Look};
 use tree_meaning::{Func, Part};
@@ -214,162 +216,31 @@ static STARTS: [(Part, [i64; 16]); 8] = [
 
 // EXTRACT(MICROSECOND FROM ..) of each of the times.
 static MICROSECONDS: [i64; 16] = [
-    0,
-    999_999,
-    999_999,
-    0,
-    999_999,
-    0,
-    999_999,
-    0,
-    789_012,
-    1,
-    999_999,
-    0,
-    999_999,
-    0,
-    0,
-    999_999,
+    0, 999_999, 999_999, 0, 999_999, 0, 999_999, 0, 789_012, 1, 999_999, 0, 999_999, 0, 0, 999_999,
 ];
 
 // EXTRACT(SECOND FROM ..) of each of the times.
-static SECONDS: [i64; 16] = [
-    0,
-    59,
-    59,
-    0,
-    59,
-    0,
-    59,
-    0,
-    56,
-    0,
-    59,
-    0,
-    59,
-    0,
-    0,
-    59,
-];
+static SECONDS: [i64; 16] = [0, 59, 59, 0, 59, 0, 59, 0, 56, 0, 59, 0, 59, 0, 0, 59];
 
 // EXTRACT(MINUTE FROM ..) of each of the times.
-static MINUTES: [i64; 16] = [
-    0,
-    59,
-    59,
-    0,
-    59,
-    0,
-    59,
-    0,
-    34,
-    0,
-    59,
-    0,
-    59,
-    0,
-    0,
-    59,
-];
+static MINUTES: [i64; 16] = [0, 59, 59, 0, 59, 0, 59, 0, 34, 0, 59, 0, 59, 0, 0, 59];
 
 // EXTRACT(HOUR FROM ..) of each of the times.
-static HOURS: [i64; 16] = [
-    0,
-    23,
-    0,
-    0,
-    23,
-    0,
-    23,
-    0,
-    12,
-    23,
-    23,
-    0,
-    23,
-    0,
-    0,
-    23,
-];
+static HOURS: [i64; 16] = [0, 23, 0, 0, 23, 0, 23, 0, 12, 23, 23, 0, 23, 0, 0, 23];
 
 // EXTRACT(DAY FROM ..) of each of the times.
-static DAYS: [i64; 16] = [
-    1,
-    1,
-    31,
-    1,
-    31,
-    1,
-    4,
-    5,
-    29,
-    31,
-    29,
-    1,
-    28,
-    1,
-    1,
-    31,
-];
+static DAYS: [i64; 16] = [1, 1, 31, 1, 31, 1, 4, 5, 29, 31, 29, 1, 28, 1, 1, 31];
 
 // EXTRACT(MONTH FROM ..) of each of the times.
-static MONTHS: [i64; 16] = [
-    1,
-    1,
-    12,
-    3,
-    12,
-    1,
-    1,
-    1,
-    2,
-    12,
-    2,
-    3,
-    2,
-    3,
-    10,
-    12,
-];
+static MONTHS: [i64; 16] = [1, 1, 12, 3, 12, 1, 1, 1, 2, 12, 2, 3, 2, 3, 10, 12];
 
 // EXTRACT(QUARTER FROM ..) of each of the times.
-static QUARTERS: [i64; 16] = [
-    1,
-    1,
-    4,
-    1,
-    4,
-    1,
-    1,
-    1,
-    1,
-    4,
-    1,
-    1,
-    1,
-    1,
-    4,
-    4,
-];
+static QUARTERS: [i64; 16] = [1, 1, 4, 1, 4, 1, 1, 1, 1, 4, 1, 1, 1, 1, 4, 4];
 
 // EXTRACT(YEAR FROM ..) of each of the times.
 static YEARS: [i64; 16] = [
-    1,
-    1,
-    1_600,
-    1_900,
-    1_969,
-    1_970,
-    1_970,
-    1_970,
-    2_000,
-    2_023,
-    2_024,
-    2_024,
-    2_100,
-    2_100,
-    9_999,
-    9_999,
+    1, 1, 1_600, 1_900, 1_969, 1_970, 1_970, 1_970, 2_000, 2_023, 2_024, 2_024, 2_100, 2_100,
+    9_999, 9_999,
 ];
 
 // The whole seconds of each of the times.
@@ -401,9 +272,17 @@ static SUMS: [(i64, i64, Option<i64>); 16] = [
     (-719_163, 0, None),
     (2_932_896, 0, Some(253_402_214_400_000_000)),
     (2_932_897, 0, None),
-    (3_652_058, -62_135_596_800_000_000, Some(253_402_214_400_000_000)),
+    (
+        3_652_058,
+        -62_135_596_800_000_000,
+        Some(253_402_214_400_000_000),
+    ),
     (3_652_059, -62_135_596_800_000_000, None),
-    (-3_652_058, 253_402_300_799_999_999, Some(-62_135_510_400_000_001)),
+    (
+        -3_652_058,
+        253_402_300_799_999_999,
+        Some(-62_135_510_400_000_001),
+    ),
     (-3_652_059, 253_402_300_799_999_999, None),
     (0, 253_402_300_799_999_999, Some(253_402_300_799_999_999)),
     (9_223_372_036_854_775_807, 0, None),
@@ -415,6 +294,16 @@ static SUMS: [(i64, i64, Option<i64>); 16] = [
 // The numbers as times.
 fn as_times(nums: [i64; 16]) -> Lanes<'static> {
     Lanes::times(LaneMask::none(), LaneMask::all(), IntLanes { lanes: nums })
+}
+
+// The lane, which is below 16, shows the time, or MISSING.
+fn shows_time(lanes: &Lanes<'_>, lane: u32, wanted: Option<i64>) -> bool
+    requires { lane < 16 }
+{
+    match wanted {
+        Some(time) => lanes.look(lane) == Look::Time(time),
+        None => lanes.look(lane) == Look::Missing,
+    }
 }
 
 // Each lane shows the time.
@@ -441,7 +330,10 @@ fn shows_ints(lanes: &Lanes<'_>, wanted: &[i64; 16]) -> bool {
 fn parts_begin(rt: HostRuntime) {
     let times = as_times(TIMES);
     for (part, wanted) in &STARTS {
-        assert!(rt; shows_times(&trunc16(*part, &times, LaneMask::all()), wanted), "{part:?}");
+        assert!(rt;
+            shows_times(&trunc16(*part, &times, LaneMask::all()), wanted),
+            "{part:?}"
+        );
     }
 }
 
@@ -465,10 +357,15 @@ fn parts_are_shown(rt: HostRuntime) {
 fn days_are_added(rt: HostRuntime) {
     let all = LaneMask::all();
     for (count, time, wanted) in &SUMS {
-        let counts = Lanes::ints(LaneMask::none(), all, IntLanes { lanes: [*count; 16] });
+        let counts = Lanes::ints(
+            LaneMask::none(),
+            all,
+            IntLanes {
+                lanes: [*count; 16],
+            },
+        );
         let sums = shift16(Part::Day, &counts, &as_times([*time; 16]), LaneMask(0x0080));
-        let shown = wanted.map_or(Look::Missing, Look::Time);
-        assert!(rt; sums.look(7) == shown, "{count} days");
-        assert!(rt; sums.look(8) == Look::Missing, "outside the mask");
+        assert!(rt; shows_time(&sums, 7, *wanted), "{count} days");
+        assert!(rt; shows_time(&sums, 8, None), "outside the mask");
     }
 }

@@ -1,4 +1,4 @@
-use Rattle.std.proofs.Common.{◌≡◌, ◌<◌, pos, true, arith, length, length-set, ◌∙◌, ap, sym, FitsSigned, w64, to_z-of_z, rules}
+use Rattle.std.proofs.Common.{◌<◌, pos, arith, length, length-set, ◌∙◌, ap, FitsSigned, w64, to_z-of_z, rules}
 use Rattle.std.specs.Prelude.{◌&&◌, ◌||◌, nat_eq}
 use Rattle.time_meaning.specs.Moments.{is_time}
 use Rattle.lane_base.specs.Bits.{has}

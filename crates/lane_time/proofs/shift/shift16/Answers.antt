@@ -1,7 +1,6 @@
-use Rattle.std.proofs.Common.{◌∙◌, ◌≡◌, true, ap, sym, subst, ℕ, ℤ, pos}
-use Rattle.std.specs.Prelude.{◌&&◌, Option, Some}
-use Rattle.value_meaning.specs.Val.{Val, time}
-use Rattle.time_meaning.specs.Moments.{IsTime, is_time}
+use Rattle.std.proofs.Common.{◌∙◌, ap, sym, subst, ℕ}
+use Rattle.std.specs.Prelude.{Option}
+use Rattle.time_meaning.specs.Moments.{IsTime}
 use Rattle.eval_meaning.specs.Operands.{of_two}
 use Rattle.eval_meaning.specs.Times.{on_count_and_time, moved}
 use Rattle.lane_base.specs.Bits.{has}

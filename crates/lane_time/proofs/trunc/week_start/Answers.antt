@@ -1,4 +1,4 @@
-use Rattle.std.proofs.Common.{arith, sym, ◌∙◌, to_z-of_z, w64, to_z, of_z, ◌≡◌}
+use Rattle.std.proofs.Common.{arith}
 use Rattle.jiff_core.proofs.SignedLemmas.{signed_arith}
 use Rattle.lane_time.proofs.Weeks.{week_start_is}
 use Rattle.lane_time.proofs.trunc.week_start.Goals as goal
