@@ -14,8 +14,8 @@ use lane_base::{IntLanes, LaneMask, Lanes, SpanLanes};
 /// `a LIKE pattern` in the lanes of `m`, or another of the five ways to match.
 pub fn match16<'b>(pattern: &Pattern, a: &Lanes<'b>, m: LaneMask) -> Lanes<'b>
     ensures value { (table : Table) → AreLegalIn table m.0 a.now → (i : ℕ) → i < 16
-        → value_at table result i
-        ≡ under (has m.0 i) (matching_of pattern.now.how pattern.now.text (value_at table a.now i)) }
+        → value_at table result i ≡ under (has m.0 i)
+        (matching_of pattern.now.how pattern.now.text (value_at table a.now i)) }
     ensures legal { (table : Table) → AreLegal table result }
 {
     let texts = m.and(a.text);

@@ -4,7 +4,7 @@ ghost use Rattle.lane_text.specs.Bytewise.{folded};
 ghost use Rattle.lane_text.specs.PatternValue.{pieces_for};
 
 use crate::piece::Piece;
-use crate::pieces::{anchored, cut};
+use crate::pieces::{anchored, cut, whole};
 use snel_values::OutOfMemory;
 use std::alloc::Global;
 use std::marker::Model;
@@ -75,16 +75,6 @@ fn lowered(alloc: Global, text: &[u8]) -> Result<Vec<u8>, OutOfMemory>
     ensures { IfOk result (λ v. v.items ≡ folded true text.now) }
 {
     Ok(text.iter().map(|b| b.to_ascii_lowercase()).collect(alloc)?)
-}
-
-/// The text as one piece.
-fn whole(alloc: Global, text: &[u8]) -> Result<Vec<Piece>, OutOfMemory>
-    requires { IsUtf8 text.now }
-    ensures { IfOk result (λ v. v.items ≡ text.now ∷ []) }
-{
-    let mut pieces = Vec::new(alloc);
-    pieces.push(Piece::of(alloc, text)?)?;
-    Ok(pieces)
 }
 
 /// Whether the only piece stands in the text.

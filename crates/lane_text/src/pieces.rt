@@ -1,7 +1,7 @@
 //! A pattern as the pieces that its `%` part: the first begins the text, the others stand after it one after the other,
 //! and the last ends it.
 
-ghost use Rattle.std.specs.Prelude.{◌≡◌, ◌<◌, ◌≤◌, IsUtf8, IfOk, IfSome, length, map, drop};
+ghost use Rattle.std.specs.Prelude.{◌≡◌, ◌<◌, ◌≤◌, [], ◌∷◌, ◌++◌, IsUtf8, IfOk, OnOk, IfSome, length, map, drop};
 ghost use Rattle.std.specs.Str.{chars};
 ghost use Rattle.lane_text.specs.Bytewise.{folded, IsRest};
 ghost use Rattle.lane_text.specs.Pieces as spec;
@@ -20,10 +20,20 @@ pub(crate) fn cut(alloc: Global, pattern: &[u8]) -> Result<Vec<Piece>, OutOfMemo
     let mut start = 0;
     while let Some(count) = memchr(b'%', &pattern[start..]) {
         let end = start + count;
-        pieces.push(Piece::of(alloc, &pattern[start..end])?)?;
+        push(&mut pieces, alloc, &pattern[start..end])?;
         start = end + 1;
     }
-    pieces.push(Piece::of(alloc, &pattern[start..])?)?;
+    push(&mut pieces, alloc, &pattern[start..])?;
+    Ok(pieces)
+}
+
+/// The text as one piece.
+pub(crate) fn whole(alloc: Global, text: &[u8]) -> Result<Vec<Piece>, OutOfMemory>
+    requires { IsUtf8 text.now }
+    ensures { IfOk result (λ v. v.items ≡ text.now ∷ []) }
+{
+    let mut pieces = Vec::new(alloc);
+    push(&mut pieces, alloc, text)?;
     Ok(pieces)
 }
 
@@ -44,6 +54,15 @@ pub(crate) fn anchored(pieces: &[Piece], fold: bool, text: &[u8]) -> bool
             Some(end) => floating(later, fold, text, end),
         },
     }
+}
+
+/// Adds the piece with these bytes.
+fn push(pieces: &mut Vec<Piece>, alloc: Global, bytes: &[u8]) -> Result<(), OutOfMemory>
+    requires { IsUtf8 bytes.now }
+    ensures { OnOk result (pieces.new.items ≡ pieces.old.items ++ bytes.now ∷ []) }
+{
+    pieces.push(Piece::of(alloc, bytes)?)?;
+    Ok(())
 }
 
 /// Whether the pieces stand one after the other in the text from a place on, and the last one ends it.

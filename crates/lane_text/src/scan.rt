@@ -120,7 +120,8 @@ fn is_whole_at(piece: &[u8], fold: bool, text: &[u8], at: usize) -> bool
 
 /// Where the piece ends, if the bytes begin with it. A `_` takes a first byte and those that follow it.
 fn after_bytes(piece: &[u8], fold: bool, text: &[u8]) -> Option<usize>
-    ensures { let whole = folded fold text.now in IsByteRest whole (after_bytes piece.now whole) result }
+    ensures { let whole = folded fold text.now in
+        IsByteRest whole (after_bytes piece.now whole) result }
 {
     let mut at = 0;
     for sign in piece {

@@ -4,26 +4,6 @@ use std::alloc::Global;
 use std::test::Fail;
 use tree_meaning::How;
 
-/// What the lane shows where the text stands in lane 0 and the mask is all lanes.
-fn matched(alloc: Global, how: How, pattern: &str, text: &str) -> Option<bool> {
-    let pattern = Pattern::of(alloc, how, pattern).ok()?;
-    let lanes = const16(Look::Text(text.as_bytes()), LaneMask(1));
-    match match16(&pattern, &lanes, LaneMask::all()).look(0) {
-        Look::Bool(truth) => Some(truth),
-        _ => None,
-    }
-}
-
-/// The count of the rows up to the first that matches otherwise than it says.
-fn agreed(alloc: Global, rows: &[(How, &str, &str, bool)]) -> usize {
-    for (i, row) in rows.iter().enumerate() {
-        if matched(alloc, row.0, row.1, row.2) != Some(row.3) {
-            return i;
-        }
-    }
-    rows.len()
-}
-
 /// Patterns, texts and whether they match. `a` is `aé` in the first three.
 static ROWS: [(How, &str, &str, bool); 47] = [
     (How::Like, "a_", "aé", true),
@@ -77,7 +57,16 @@ static ROWS: [(How, &str, &str, bool); 47] = [
 
 #[test]
 fn patterns(rt: HostRuntime) {
-    assert_eq!(rt; agreed(rt.alloc(), &ROWS), ROWS.len());
+    for row in &ROWS {
+        let lanes = const16(Look::Text(row.2.as_bytes()), LaneMask(1));
+        let letter = if row.3 { b'T' } else { b'F' };
+        assert_eq!(rt;
+            first_letter(rt.alloc(), row.0, row.1, &lanes),
+            letter,
+            "{}",
+            row.1
+        );
+    }
 }
 
 /// Texts and the counts of their characters.
@@ -102,24 +91,62 @@ fn lengths(rt: HostRuntime) {
     }
 }
 
-/// MISSING, NULL, true, a number, a time, a list and two texts, twice.
-fn kinds() -> Lanes<'static> {
-    let looks = [
-        Look::Missing,
-        Look::Null,
-        Look::Bool(true),
-        Look::Int(-7),
-        Look::Time(0),
-        Look::Tree(&[0xB1, 0x11]),
-        Look::Text(b"abc"),
-        Look::Text(b"xyz"),
-    ];
-    let mut lanes = const16(Look::Missing, LaneMask::all());
-    for lane in 0..16u32 {
-        let one = const16(looks[(lane % 8) as usize], LaneMask::all());
-        lanes = merge16(LaneMask(1u16 << lane), &one, &lanes, LaneMask::all());
+/// The ways to match, each by a text that matches `abc` and not `xyz`.
+static WAYS: [(How, &str); 5] = [
+    (How::Like, "_bc"),
+    (How::ILike, "_BC"),
+    (How::Starts, "ab"),
+    (How::Ends, "bc"),
+    (How::Contains, "b"),
+];
+
+/// All kinds in the first eight lanes of the mask, and of the others one text.
+#[test]
+fn kinds_and_masks(rt: HostRuntime) {
+    let mask = LaneMask(0x40FF);
+    let lanes = kinds();
+    for row in &WAYS {
+        let shown = letters_of(rt.alloc(), row.0, row.1, &lanes, mask);
+        assert_eq!(rt; shown, *b"MNMMMMTFMMMMMMTM");
     }
-    lanes
+    assert_eq!(rt; letters(&length16(&lanes, mask)), *b"MNMMMM33MMMMMM3M");
+}
+
+/// Patterns of many pieces, which a text of 100,000 `a` doesn't match.
+static LONG: [(How, &str); 4] = [
+    (How::Like, "%a%a%a%a%a%b"),
+    (How::ILike, "%A%A%A%A%A%b"),
+    (How::Like, "%a_a%a_a%aab%"),
+    (How::Like, "%a_a%a_a%a_b"),
+];
+
+#[test]
+fn many_pieces_in_a_long_text(rt: HostRuntime) -> Result<(), Fail> {
+    let text = vec![in rt.alloc(); b'a'; 100_000]?;
+    let lanes = const16(Look::Text(&text), LaneMask::all());
+    for row in &LONG {
+        assert_eq!(rt; first_letter(rt.alloc(), row.0, row.1, &lanes), b'F');
+    }
+    Ok(())
+}
+
+/// The letter of lane 0.
+fn first_letter(alloc: Global, how: How, pattern: &str, lanes: &Lanes<'_>) -> u8 {
+    letters_of(alloc, how, pattern, lanes, LaneMask::all())[0]
+}
+
+/// What a match shows in the lanes of the mask, by letters; sixteen `!` where there is no memory for the pattern.
+fn letters_of(
+    alloc: Global,
+    how: How,
+    pattern: &str,
+    lanes: &Lanes<'_>,
+    mask: LaneMask,
+) -> [u8; 16] {
+    match Pattern::of(alloc, how, pattern) {
+        Ok(pattern) => letters(&match16(&pattern, lanes, mask)),
+        Err(_) => [b'!'; 16],
+    }
 }
 
 /// M for MISSING, N for NULL, T and F for truth values, the digit of a number below ten.
@@ -138,45 +165,22 @@ fn letters(lanes: &Lanes<'_>) -> [u8; 16] {
     letters
 }
 
-/// All kinds in the first eight lanes of the mask, and of the others one text.
-#[test]
-fn kinds_and_masks(rt: HostRuntime) -> Result<(), Fail> {
-    let mask = LaneMask(0x40FF);
-    let lanes = kinds();
-    for how in [How::Like, How::ILike, How::Starts, How::Ends, How::Contains] {
-        let text = if how == How::Like || how == How::ILike {
-            "_bc"
-        } else {
-            "abc"
-        };
-        let pattern = Pattern::of(rt.alloc(), how, text)?;
-        assert_eq!(rt;
-            letters(&match16(&pattern, &lanes, mask)),
-            *b"MNMMMMTFMMMMMMTM"
-        );
+/// MISSING, NULL, true, a number, a time, a list and two texts, twice.
+fn kinds() -> Lanes<'static> {
+    let looks = [
+        Look::Missing,
+        Look::Null,
+        Look::Bool(true),
+        Look::Int(-7),
+        Look::Time(0),
+        Look::Tree(&[0xB1, 0x11]),
+        Look::Text(b"abc"),
+        Look::Text(b"xyz"),
+    ];
+    let mut lanes = const16(Look::Missing, LaneMask::all());
+    for lane in 0..16u32 {
+        let one = const16(looks[(lane % 8) as usize], LaneMask::all());
+        lanes = merge16(LaneMask(1u16 << lane), &one, &lanes, LaneMask::all());
     }
-    assert_eq!(rt; letters(&length16(&lanes, mask)), *b"MNMMMM33MMMMMM3M");
-    Ok(())
-}
-
-/// Patterns that a text of 100,000 `a` doesn't match, of many pieces.
-static LONG: [(How, &str); 4] = [
-    (How::Like, "%a%a%a%a%a%b"),
-    (How::ILike, "%A%A%A%A%A%b"),
-    (How::Like, "%a_a%a_a%aab%"),
-    (How::Like, "%a_a%a_a%a_b"),
-];
-
-#[test]
-fn many_pieces_in_a_long_text(rt: HostRuntime) -> Result<(), Fail> {
-    let text = vec![in rt.alloc(); b'a'; 100_000]?;
-    let lanes = const16(Look::Text(&text), LaneMask::all());
-    for row in &LONG {
-        let pattern = Pattern::of(rt.alloc(), row.0, row.1)?;
-        assert_eq!(rt;
-            letters(&match16(&pattern, &lanes, LaneMask::all())),
-            [b'F'; 16]
-        );
-    }
-    Ok(())
+    lanes
 }
