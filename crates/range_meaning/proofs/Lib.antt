@@ -1,0 +1,3 @@
+pub mod IntervalLaws
+pub mod MeetLaws
+pub mod Passing
