@@ -1,3 +1,3 @@
-pub mod IntervalLaws
 pub mod MeetLaws
+pub mod Holding
 pub mod Passing
