@@ -195,7 +195,8 @@ fn is_name(steps: &Steps, field: &str) -> bool
 {
     match steps.get(0) {
         Some(Step::Name(name)) => steps.len() == 1 && name.as_str() == field,
-        _ => false,
+        Some(Step::At(_)) => false,
+        None => false,
     }
 }
 

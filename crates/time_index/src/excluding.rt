@@ -1,4 +1,5 @@
-ghost use Rattle.std.specs.Prelude.{◌↔◌, IsTrue};
+ghost use Rattle.std.specs.Prelude.{◌↔◌, ◌<ℤ◌, IsTrue};
+ghost use Rattle.std.specs.Int.{int_min, int_max};
 ghost use Rattle.range_meaning.specs.Excluded.{IsExcluded};
 
 use crate::entry::Entry;
@@ -11,6 +12,13 @@ pub fn excluded(entry: &Entry, bounds: &Bounds) -> bool
 {
     match bounds {
         Bounds::All => false,
-        Bounds::Between { low, high } => entry.least.max(*low) > entry.greatest.min(*high),
+        Bounds::Between { low, high } => are_apart(entry.least, entry.greatest, *low, *high),
     }
+}
+
+// Whether no number lies both from `least` to `greatest` and from `low` to `high`.
+fn are_apart(least: i64, greatest: i64, low: i64, high: i64) -> bool
+    ensures { IsTrue result ↔ (int_min greatest high <ℤ int_max least low) }
+{
+    greatest.min(high) < least.max(low)
 }

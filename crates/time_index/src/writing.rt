@@ -1,5 +1,5 @@
 ghost use Rattle.std.specs.Prelude.{◌≡◌, ◌≤◌, ◌++◌, ℕ, List, length, flat_map, OnOk};
-ghost use Rattle.std.specs.Int.{to_be_bytes, w16, w32};
+ghost use Rattle.std.specs.Int.{to_be_bytes, cast_unsigned, w16, w32, w64};
 ghost use Rattle.time_index.specs.Heads.{head_bytes};
 ghost use Rattle.file_meaning.specs.Files.{index_bytes, tail_bytes, entry_bytes, IsFile, StandEndToEnd};
 
@@ -37,7 +37,7 @@ fn write_head(count: u32, field: &str, into: &mut Bytes) -> Result<(), OutOfMemo
     into.push_all(b"SNX1")?;
     into.push_all(&(field.len() as u16).to_be_bytes())?;
     into.push_all(field.as_bytes())?;
-    into.push_all(&count.to_be_bytes())
+    put_u32(count, into)
 }
 
 fn write_entries(entries: &[Entry], into: &mut Bytes) -> Result<(), OutOfMemory>
@@ -52,11 +52,11 @@ fn write_entries(entries: &[Entry], into: &mut Bytes) -> Result<(), OutOfMemory>
 fn write_entry(entry: &Entry, into: &mut Bytes) -> Result<(), OutOfMemory>
     ensures { OnOk result (into.new ≡ into.old ++ entry_bytes entry.now) }
 {
-    into.push_all(&entry.start.to_be_bytes())?;
-    into.push_all(&entry.length.to_be_bytes())?;
-    into.push_all(&entry.rows.to_be_bytes())?;
-    into.push_all(&entry.least.to_be_bytes())?;
-    into.push_all(&entry.greatest.to_be_bytes())
+    put_u64(entry.start, into)?;
+    put_u32(entry.length, into)?;
+    put_u32(entry.rows, into)?;
+    put_i64(entry.least, into)?;
+    put_i64(entry.greatest, into)
 }
 
 // Where the index starts, and the magic.
@@ -65,4 +65,23 @@ fn write_tail(start: u64, into: &mut Bytes) -> Result<(), OutOfMemory>
 {
     into.push_all(&start.to_be_bytes())?;
     into.push_all(b"SNX1")
+}
+
+// Numbers in big endian order.
+fn put_u32(number: u32, into: &mut Bytes) -> Result<(), OutOfMemory>
+    ensures { OnOk result (into.new ≡ into.old ++ to_be_bytes w32 number) }
+{
+    into.push_all(&number.to_be_bytes())
+}
+
+fn put_u64(number: u64, into: &mut Bytes) -> Result<(), OutOfMemory>
+    ensures { OnOk result (into.new ≡ into.old ++ to_be_bytes w64 number) }
+{
+    into.push_all(&number.to_be_bytes())
+}
+
+fn put_i64(number: i64, into: &mut Bytes) -> Result<(), OutOfMemory>
+    ensures { OnOk result (into.new ≡ into.old ++ to_be_bytes w64 (cast_unsigned w64 number)) }
+{
+    into.push_all(&number.to_be_bytes())
 }
