@@ -1,4 +1,6 @@
-//! The index of a block file: which blocks the file has, and from when to when each of them goes.
+//! The index of a block file: which blocks the file has, and from when to when each of them goes. [`read_index`] reads one,
+//! [`write_index`] writes one, and [`bounds`] with [`excluded`] tells which blocks a WHERE leaves out:
+//! `excluded(entry, &bounds(filter, "ts"))`.
 #![tactic(auto)]
 
 mod binding;
@@ -22,5 +24,7 @@ pub use range_meaning::Bounds;
 pub use soundness::in_range;
 pub use writing::write_index;
 
+#[cfg(test)]
+mod range_tests;
 #[cfg(test)]
 mod tests;

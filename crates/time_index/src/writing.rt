@@ -8,8 +8,8 @@ use file_meaning::{MOST_BLOCKS, MOST_NAME_BYTES};
 use snel_values::{Bytes, OutOfMemory};
 
 /// Adds the index of these entries and this indexed field, and the tail that names where the index starts: what follows
-/// the blocks in a block file. The blocks of the entries stand end to end from byte 0 to `start`. For want of memory some
-/// of it may stand behind the bytes.
+/// the blocks in a block file. The blocks of the entries stand end to end from byte 0 to `start`; behind bytes of that many
+/// the whole is a block file. For want of memory some of it may stand behind the bytes.
 pub fn write_index(
     entries: &[Entry],
     field: &str,
@@ -21,8 +21,8 @@ pub fn write_index(
     requires stand { StandEndToEnd 0 entries.now start }
     ensures added { OnOk result (into.new ≡ into.old
         ++ (index_bytes field.now entries.now ++ tail_bytes start)) }
-    ensures file { (blocks : List ℕ) → length blocks ≡ start
-        → OnOk result (into.old ≡ blocks → IsFile into.new field.now entries.now) }
+    ensures file { (before : List ℕ) → length (before ++ into.old) ≡ start
+        → OnOk result (IsFile (before ++ into.new) field.now entries.now) }
 {
     write_head(entries.len() as u32, field, into)?;
     write_entries(entries, into)?;
