@@ -4,3 +4,10 @@ pub mod Named
 pub mod Gap
 pub mod Found
 pub mod Told
+pub mod Conjuncts
+pub mod Steps
+pub mod Apart
+pub mod Labelled
+pub mod Pushed
+pub mod Rows
+pub mod Written

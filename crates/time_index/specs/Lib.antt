@@ -1,1 +1,4 @@
 pub mod Answers
+pub mod Heads
+pub mod Labels
+pub mod Ands

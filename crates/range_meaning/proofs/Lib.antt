@@ -1,0 +1,3 @@
+pub mod MeetLaws
+pub mod Holding
+pub mod Passing

@@ -1,0 +1,4 @@
+pub mod Intervals
+pub mod Binding
+pub mod Excluded
+pub mod Laws
