@@ -12,11 +12,15 @@ pub put-requires : goal.put-requires
 put-requires c =
     let old = c.args.builder.now in
     let mid = c.loop-at.builder in
-    let h = c.loop-at.invariant in (
-      mask_known old mid c.args.mask h.extends c.requires.mask,
-      h.made,
-      value_known old mid c.register_at-b.result h.extends (all_at (λ (r : ℕ). r < value_count old) c.args.args.now c.loop-at.at c.register_at-b.result c.register_at-b.ensures c.requires.values),
-    )
+    let h = c.loop-at.invariant in
+    record {
+      names =
+          (
+            mask_known old mid c.args.mask h.extends c.requires.mask,
+            h.made,
+            value_known old mid c.register_at-b.result h.extends (all_at (λ (r : ℕ). r < value_count old) c.args.args.now c.loop-at.at c.register_at-b.result c.register_at-b.ensures c.requires.values),
+          );
+    }
 
 pub loop-at-init : goal.loop-at-init
 loop-at-init c = first_operand c.args.builder.now c.args.mask c.requires.mask c.args.args.now c.register_at-first.result c.register_at-first.ensures c.requires.values
