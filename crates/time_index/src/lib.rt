@@ -12,6 +12,3 @@ pub use entries::Entries;
 pub use entry::Entry;
 pub use files::read_index;
 pub use index::{Index, IndexFault};
-
-#[cfg(test)]
-mod tests;
