@@ -6,8 +6,6 @@ mod chunk;
 mod fault;
 mod opening;
 mod rows;
-#[cfg(test)]
-mod tests;
 
 pub use block::Block;
 pub use chunk::Chunk;

@@ -15,6 +15,8 @@ mod line_tests;
 #[cfg(test)]
 mod line_value_tests;
 #[cfg(test)]
+mod range_tests;
+#[cfg(test)]
 mod sample;
 #[cfg(test)]
 mod standing;

@@ -13,8 +13,6 @@ mod numbers;
 mod places;
 mod scalars;
 mod tag;
-#[cfg(test)]
-mod tests;
 mod times;
 pub mod types;
 

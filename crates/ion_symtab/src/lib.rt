@@ -5,8 +5,6 @@ mod fault;
 mod parts;
 mod reading;
 mod table;
-#[cfg(test)]
-mod tests;
 mod texts;
 mod values;
 

@@ -16,8 +16,3 @@ pub use numbers::put_number;
 pub use texts::{put_quoted, put_quoted_bytes};
 pub use times::put_quoted_time;
 pub use values::put_value;
-
-#[cfg(test)]
-mod tests;
-#[cfg(test)]
-mod value_tests;

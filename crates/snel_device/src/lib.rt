@@ -21,8 +21,6 @@ mod schedule;
 mod steady_files;
 mod steady_streams;
 mod stored;
-#[cfg(test)]
-mod tests;
 
 pub use host_files::HostFiles;
 pub use host_streams::{HostInput, HostOut};

@@ -25,6 +25,3 @@ pub use steps::{Step, Steps};
 pub use text::Text;
 pub use value::Value;
 pub use words::Words;
-
-#[cfg(test)]
-mod tests;

@@ -23,8 +23,3 @@ pub use index::{Index, IndexFault};
 pub use range_meaning::Bounds;
 pub use soundness::in_range;
 pub use writing::write_index;
-
-#[cfg(test)]
-mod range_tests;
-#[cfg(test)]
-mod tests;

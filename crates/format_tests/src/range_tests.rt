@@ -1,8 +1,8 @@
-use crate::{Bounds, Entries, Entry, excluded, in_range, read_index, write_index};
 use block_file::open_block;
 use snel_device::MemFiles;
 use snel_values::Bytes;
 use std::alloc::{AllocError, Global};
+use time_index::{Bounds, Entries, Entry, excluded, in_range, read_index, write_index};
 
 // The time of the first block, 2024-01-01T00:00:00Z; the second block's is a second later.
 const FIRST: i64 = 1_704_067_200_000_000;
@@ -18,11 +18,11 @@ static BLOCKS: [u8; 48] = [
 
 // Their index with the field `ts`, and the tail.
 static INDEX: [u8; 88] = [
-    0x53, 0x4E, 0x58, 0x31, 0, 2, 0x74, 0x73, 0, 0, 0, 2, 0, 0, 0, 0, 0, 0, 0, 0, 0, 0, 0, 24, 0, 0,
-    0, 1, 0x00, 0x06, 0x0D, 0xD7, 0x10, 0x21, 0x20, 0x00, 0x00, 0x06, 0x0D, 0xD7, 0x10, 0x21, 0x20,
-    0x00, 0, 0, 0, 0, 0, 0, 0, 24, 0, 0, 0, 24, 0, 0, 0, 1, 0x00, 0x06, 0x0D, 0xD7, 0x10, 0x30,
-    0x62, 0x40, 0x00, 0x06, 0x0D, 0xD7, 0x10, 0x30, 0x62, 0x40, 0, 0, 0, 0, 0, 0, 0, 48, 0x53, 0x4E,
-    0x58, 0x31,
+    0x53, 0x4E, 0x58, 0x31, 0, 2, 0x74, 0x73, 0, 0, 0, 2, 0, 0, 0, 0, 0, 0, 0, 0, 0, 0, 0, 24, 0,
+    0, 0, 1, 0x00, 0x06, 0x0D, 0xD7, 0x10, 0x21, 0x20, 0x00, 0x00, 0x06, 0x0D, 0xD7, 0x10, 0x21,
+    0x20, 0x00, 0, 0, 0, 0, 0, 0, 0, 24, 0, 0, 0, 24, 0, 0, 0, 1, 0x00, 0x06, 0x0D, 0xD7, 0x10,
+    0x30, 0x62, 0x40, 0x00, 0x06, 0x0D, 0xD7, 0x10, 0x30, 0x62, 0x40, 0, 0, 0, 0, 0, 0, 0, 48,
+    0x53, 0x4E, 0x58, 0x31,
 ];
 
 fn entry(start: u64, least: i64, greatest: i64) -> Entry {
@@ -146,6 +146,10 @@ fn times_of_blocks_lie_in_their_entries(rt: HostRuntime) {
             &BLOCKS[24..]
         };
         let of = entry(0, *least, *greatest);
-        assert_eq!(rt; is_in_range(rt.alloc(), bytes, &of, field), Some(*wanted), "{field}");
+        assert_eq!(rt;
+            is_in_range(rt.alloc(), bytes, &of, field),
+            Some(*wanted),
+            "{field}"
+        );
     }
 }
