@@ -28,7 +28,8 @@ pub fn cast16<'b>(to: CastTo, a: &Lanes<'b>, m: LaneMask) -> Lanes<'b>
 // `CAST(a AS INTEGER)` in the lanes of `m`.
 fn integer16<'b>(a: &Lanes<'b>, m: LaneMask) -> Lanes<'b>
     ensures value { (table : Table) → AreLegalIn table m.0 a.now → (i : ℕ) → i < 16
-        → value_at table result i ≡ under (has m.0 i) (cast_of target.Integer (value_at table a.now i)) }
+        → value_at table result i
+        ≡ under (has m.0 i) (cast_of target.Integer (value_at table a.now i)) }
     ensures legal { (table : Table) → AreLegal table result }
 {
     let rest = m.minus(a.null);
@@ -39,7 +40,8 @@ fn integer16<'b>(a: &Lanes<'b>, m: LaneMask) -> Lanes<'b>
 // `CAST(a AS BOOLEAN)` in the lanes of `m`.
 fn boolean16<'b>(a: &Lanes<'b>, m: LaneMask) -> Lanes<'b>
     ensures value { (table : Table) → AreLegalIn table m.0 a.now → (i : ℕ) → i < 16
-        → value_at table result i ≡ under (has m.0 i) (cast_of target.Boolean (value_at table a.now i)) }
+        → value_at table result i
+        ≡ under (has m.0 i) (cast_of target.Boolean (value_at table a.now i)) }
     ensures legal { (table : Table) → AreLegal table result }
 {
     let rest = m.minus(a.null);
@@ -79,7 +81,8 @@ struct Truths {
 // The truth values that the values in the lanes of `m` are cast to.
 fn truths_of(a: &Lanes<'_>, m: LaneMask) -> Truths
     ensures { (table : Table) → AreLegalIn table m.0 a.now → (k : ℕ) → k < 16 → has m.0 k ≡ true
-        → truth_as false (has result.yes.0 k) (has result.no.0 k) ≡ to_boolean (value_at table a.now k) }
+        → truth_as false (has result.yes.0 k) (has result.no.0 k)
+        ≡ to_boolean (value_at table a.now k) }
 {
     let mut yes = 0u16;
     let mut no = 0u16;

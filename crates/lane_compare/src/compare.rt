@@ -15,8 +15,9 @@ use tree_meaning::BinOp;
 /// `a op b` in the lanes of `m`, where `op` is `=`, `<>`, `<`, `<=`, `>` or `>=`.
 pub fn compare16<'b>(op: BinOp, a: &Lanes<'b>, b: &Lanes<'b>, m: LaneMask) -> Lanes<'b>
     requires { is_comparison op ≡ true }
-    ensures value { (table : Table) → AreLegalIn table m.0 a.now → AreLegalIn table m.0 b.now → (i : ℕ) → i < 16
-        → value_at table result i ≡ under (has m.0 i) (compare op (value_at table a.now i) (value_at table b.now i)) }
+    ensures value { (table : Table) → AreLegalIn table m.0 a.now → AreLegalIn table m.0 b.now
+        → (i : ℕ) → i < 16 → value_at table result i
+        ≡ under (has m.0 i) (compare op (value_at table a.now i) (value_at table b.now i)) }
     ensures legal { (table : Table) → AreLegal table result }
 {
     let null = null16(a, b, m);

@@ -9,8 +9,9 @@ use lane_base::{LaneMask, Lanes};
 /// The lanes of `m` in which one operand is NULL and neither is MISSING, so that an operator of two operands is NULL.
 #[inline(always)]
 pub fn null16(a: &Lanes<'_>, b: &Lanes<'_>, m: LaneMask) -> LaneMask
-    ensures value { (table : Table) → AreLegalIn table m.0 a.now → AreLegalIn table m.0 b.now → (i : ℕ) → i < 16
-        → has result.0 i ≡ (has m.0 i && is_null_of_two (value_at table a.now i) (value_at table b.now i)) }
+    ensures value { (table : Table) → AreLegalIn table m.0 a.now → AreLegalIn table m.0 b.now
+        → (i : ℕ) → i < 16 → has result.0 i
+        ≡ (has m.0 i && is_null_of_two (value_at table a.now i) (value_at table b.now i)) }
 {
     let null_a = a.null.and(b.present());
     let null_b = b.null.and(a.present());
