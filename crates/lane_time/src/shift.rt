@@ -31,9 +31,11 @@ struct Moved {
 /// `DATE_ADD(part, n, a)` in the lanes of `m`: the time plus the number times the part, MISSING out of range.
 pub fn shift16<'b>(part: Part, n: &Lanes<'b>, a: &Lanes<'b>, m: LaneMask) -> Lanes<'b>
     requires { is_added part ≡ true }
-    ensures value { (table : Table) → AreLegalIn table m.0 n.now → AreLegalIn table m.0 a.now → (i : ℕ) → i < 16
-        → value_at table result i ≡ under (has m.0 i) (shift_of part (value_at table n.now i) (value_at table a.now i)) }
-    ensures legal { (table : Table) → AreLegalIn table m.0 n.now → AreLegalIn table m.0 a.now → AreLegal table result }
+    ensures value { (table : Table) → AreLegalIn table m.0 n.now → AreLegalIn table m.0 a.now
+        → (i : ℕ) → i < 16 → value_at table result i
+        ≡ under (has m.0 i) (shift_of part (value_at table n.now i) (value_at table a.now i)) }
+    ensures legal { (table : Table) → AreLegalIn table m.0 n.now → AreLegalIn table m.0 a.now
+        → AreLegal table result }
 {
     let null = m.and(n.null.and(a.present()).or(n.present().and(a.null)));
     let moved = moved_nums(length_of(part), &n.nums, &a.nums);
