@@ -1,4 +1,4 @@
-use Rattle.std.proofs.Common.{◌≡◌, sym, subst, FitsSigned, w64, rules}
+use Rattle.std.proofs.Common.{sym, subst, FitsSigned, w64, rules}
 use Rattle.std.proofs.lemmas.Int.{to_z-of_z}
 use Rattle.file_meaning.specs.Files.{Entry}
 use Rattle.range_meaning.specs.declared.Bounds.{Bounds}
@@ -16,6 +16,7 @@ returns-in-Between c =
     let exact = simp to_z-of_z at c.are_apart.ensures in
     let low = c.in-Between.low in
     let high = c.in-Between.high in
-    let entry : Entry = record { start = c.entry.inside.start; length = c.entry.inside.length; rows = c.entry.inside.rows; least = c.entry.inside.least; greatest = c.entry.inside.greatest } in
-    (λ t. subst (λ (b : Bounds). IsExcluded c.args.entry.now b) (sym c.in-Between.is) (subst (λ (e : Entry). IsExcluded e (Between low high)) c.entry.view_is (apart_is entry low high (exact.0 t))),
-     λ x. exact.1 (apart_was entry low high (subst (λ (e : Entry). IsExcluded e (Between low high)) (sym c.entry.view_is) (subst (λ (b : Bounds). IsExcluded c.args.entry.now b) c.in-Between.is x))))
+    let entry : Entry = record { start = c.entry.inside.start; length = c.entry.inside.length; rows = c.entry.inside.rows; least = c.entry.inside.least; greatest = c.entry.inside.greatest } in (
+      λ t. subst (λ (b : Bounds). IsExcluded c.args.entry.now b) (sym c.in-Between.is) (subst (λ (e : Entry). IsExcluded e (Between low high)) c.entry.view_is (apart_is entry low high (exact.0 t))),
+      λ x. exact.1 (apart_was entry low high (subst (λ (e : Entry). IsExcluded e (Between low high)) (sym c.entry.view_is) (subst (λ (b : Bounds). IsExcluded c.args.entry.now b) c.in-Between.is x))),
+    )
