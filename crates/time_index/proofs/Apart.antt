@@ -1,13 +1,12 @@
 -- Bounds and an entry's times that have no number in common.
-use Rattle.std.proofs.Common.{◌≡◌, ◌≢◌, ℤ, Bool, true, false, refl, sym, ap, ◌∙◌, arith, subst}
+use Rattle.std.proofs.Common.{◌≡◌, ℤ, Bool, true, false, refl, ◌∙◌, arith}
 use Rattle.std.specs.Prelude.{◌↔◌, ◌≤ℤ◌, ◌<ℤ◌, IsTrue, int_lt, FitsSigned}
 use Rattle.std.proofs.Common.{to_z, of_z, w64}
 use Rattle.std.specs.Int.{int_min, int_max}
 use Rattle.std.proofs.lemmas.Int.{ints, clamps, to_z-of_z}
 use Rattle.file_meaning.specs.Files.{Entry}
-use Rattle.range_meaning.specs.declared.Bounds.{Bounds}
-use Rattle.range_meaning.specs.declared.Bounds.TheVariants.{All, Between}
-use Rattle.range_meaning.specs.Excluded.{LiesWithin, IsExcluded}
+use Rattle.range_meaning.specs.declared.Bounds.TheVariants.{Between}
+use Rattle.range_meaning.specs.Excluded.{IsExcluded}
 
 -- the greater of the lower ends is above the lesser of the upper ends
 pub apart_is : (e : Entry) (low high : ℤ) → (int_min e.greatest high <ℤ int_max e.least low) → IsExcluded e (Between low high)

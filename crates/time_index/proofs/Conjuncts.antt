@@ -1,7 +1,6 @@
 -- The conjuncts of an AND and of any other expression, and the bounds that they leave.
-use Rattle.std.proofs.Common.{◌≡◌, ◌≢◌, ℕ, ◌+◌, ◌<◌, ◌≤◌, List, [], ◌∷◌, ◌++◌, Option, Some, None, Bool, true, false, true≢false, refl, sym, ap, ◌∙◌, arith}
-use Rattle.std.specs.Prelude.{map, fold, ◌==◌, length}
-use Rattle.tree_meaning.specs.declared.BinOp.{BinOp}
+use Rattle.std.proofs.Common.{◌≡◌, ◌≢◌, ℕ, ◌<◌, List, [], ◌∷◌, ◌++◌, Option, Some, None, Bool, false, true≢false, refl, sym, ap, ◌∙◌, arith}
+use Rattle.std.specs.Prelude.{◌==◌, length}
 use Rattle.tree_meaning.specs.declared.BinOp.TheVariants as op
 use Rattle.tree_meaning.specs.Tree.{Ex, bin, size}
 use Rattle.range_meaning.specs.declared.Bounds.{Bounds}

@@ -1,5 +1,5 @@
 -- Steps that are one name.
-use Rattle.std.proofs.Common.{◌≡◌, ◌≢◌, ℕ, ◌+◌, Bool, false, List, [], ◌∷◌, length, Option, Some, None, refl, sym, ap, ◌∙◌, arith}
+use Rattle.std.proofs.Common.{◌≡◌, ◌≢◌, ℕ, false, List, [], ◌∷◌, length, Some, None, refl, ap, arith}
 use Rattle.std.specs.Prelude.{map, slice_get}
 use Rattle.std.specs.Str.{bytes_eq}
 use Rattle.snel_values.specs.declared.steps.Step.{Step}

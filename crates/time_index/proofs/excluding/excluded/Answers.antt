@@ -1,4 +1,4 @@
-use Rattle.std.proofs.Common.{◌≡◌, sym, subst, FitsSigned, w64, rules}
+use Rattle.std.proofs.Common.{sym, subst, FitsSigned, w64, rules}
 use Rattle.std.proofs.lemmas.Int.{to_z-of_z}
 use Rattle.file_meaning.specs.Files.{Entry}
 use Rattle.range_meaning.specs.declared.Bounds.{Bounds}
