@@ -1,0 +1,5 @@
+pub mod Dates
+pub mod Smaller
+pub mod Moments
+pub mod Lookups
+pub mod Weighed

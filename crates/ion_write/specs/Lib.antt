@@ -1,0 +1,3 @@
+pub mod PairAt
+pub mod Appends
+pub mod Counts
