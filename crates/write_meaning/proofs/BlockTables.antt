@@ -13,7 +13,7 @@ use Rattle.write_meaning.specs.Laws.{OneTable}
 use Rattle.write_meaning.proofs.Numbering.{below_trans, not_both, not_itself, tail_rises}
 
 -- each text that follows is above the first
-above_head : (t : List ℕ) (ts : Table) (s : List ℕ) → TextsRise (t ∷ ts) → IsAmong s ts → IsBelow t s
+pub above_head : (t : List ℕ) (ts : Table) (s : List ℕ) → TextsRise (t ∷ ts) → IsAmong s ts → IsBelow t s
 above_head t [] s r h = absurd h
 above_head t (u ∷ ts) s r (inl e) = rw e r.0
 above_head t (u ∷ ts) s r (inr h) = below_trans t u s r.0 (above_head u ts s r.1 h)

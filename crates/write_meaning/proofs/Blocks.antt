@@ -77,7 +77,7 @@ table_stands table rise textual h =
       rise = rise;
     }
 
-weights_are : (rows : List Val) → weights (vals rows) ≡ sum_by weight rows
+pub weights_are : (rows : List Val) → weights (vals rows) ≡ sum_by weight rows
 weights_are [] = refl
 weights_are (r ∷ rs) = ap (λ n. weight r + n) (weights_are rs) ∙ sym (sum_by-cons weight r rs)
 

@@ -29,17 +29,17 @@ pub record TimesServe : Type 0 where
   pub short : (t : ℤ) → is_time t ≡ true → length (time_bytes t) ≤ 12
   pub stand : (t : ℤ) → is_time t ≡ true → IsTimestamp t (time_bytes t)
 
-short_cell : (t most : ℕ) (payload : List ℕ) → length payload ≤ most → most ≤ 13 → length (cell_bytes t payload) ≤ 1 + most
+pub short_cell : (t most : ℕ) (payload : List ℕ) → length payload ≤ most → most ≤ 13 → length (cell_bytes t payload) ≤ 1 + most
 short_cell t most payload h k = omega (arith, cell_length t payload, head_of_short t (length payload) (omega arith))
 
-any_cell : (t : ℕ) (payload : List ℕ) → length (cell_bytes t payload) ≤ 5 + length payload
+pub any_cell : (t : ℕ) (payload : List ℕ) → length (cell_bytes t payload) ≤ 5 + length payload
 any_cell t payload = omega (arith, cell_length t payload, head_length t (length payload))
 
 text_light : (o : Option ℕ) (s : List ℕ) → length (text_bytes o s) ≤ 5 + length s
 text_light None s = any_cell 8 s
 text_light (Some n) s = omega (arith, short_cell 7 4 (digits 256 4 n) (digits_length 256 4 n) (omega arith))
 
-label_light : (o : Option ℕ) → length (label_bytes o) ≤ 4
+pub label_light : (o : Option ℕ) → length (label_bytes o) ≤ 4
 label_light None = omega arith
 label_light (Some n) = var_uint_length n
 
@@ -47,7 +47,7 @@ ranged_light : (b : Bool) (bytes : List ℕ) (most : ℕ) → (b ≡ true → le
 ranged_light true bytes most h = h refl
 ranged_light false bytes most h = omega arith
 
-time_light : (t : ℤ) → (is_time t ≡ true → length (time_bytes t) ≤ 12) → length (time_cell t) ≤ 13
+pub time_light : (t : ℤ) → (is_time t ≡ true → length (time_bytes t) ≤ 12) → length (time_cell t) ≤ 13
 unfolding time_cell
 time_light t h = ranged_light _ _ 13 (λ e. short_cell 6 12 (time_bytes t) (h e) (omega arith))
 

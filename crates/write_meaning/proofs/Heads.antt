@@ -12,7 +12,7 @@ short_head : (t n : ℕ) → nat_le n 13 ≡ true → head_bytes t n ≡ (16 * t
 unfolding head_bytes
 short_head t n e = rw e refl
 
-long_head : (t n : ℕ) → nat_le n 13 ≡ false → head_bytes t n ≡ (16 * t + 14) ∷ var_uint_bytes n
+pub long_head : (t n : ℕ) → nat_le n 13 ≡ false → head_bytes t n ≡ (16 * t + 14) ∷ var_uint_bytes n
 unfolding head_bytes
 long_head t n e = rw e refl
 

@@ -8,3 +8,5 @@ pub mod ShortTimes
 pub mod Blocks
 pub mod BlockTables
 pub mod Placing
+pub mod Paying
+pub mod Bounded

@@ -1,10 +1,11 @@
 -- Which values may stand in a block.
-use Rattle.std.specs.Prelude.{◌≡◌, ℕ, suc, ◌^◌, ◌<◌, ℤ, pos, negsuc, List, Some, IsTrue}
+use Rattle.std.specs.Prelude.{◌≡◌, ℕ, suc, ◌^◌, ◌<◌, true, ℤ, pos, negsuc, List, [], ◌∷◌, Some, IsTrue}
 use Rattle.std.specs.Str.{IsUtf8}
 use Rattle.time_meaning.specs.Moments.{is_time}
 use Rattle.value_meaning.specs.Val.{Val, Vals, Fields, missing, null, truth, int, time, text, list, struct, no_vals, val, no_fields, field}
 use Rattle.value_meaning.specs.Sound.{IsBelowFirst}
 use Rattle.block_meaning.specs.Tables.{Table}
+use Rattle.block_meaning.specs.Blocks.{is_struct}
 use Rattle.write_meaning.specs.Encoding.{number_of}
 
 -- The value may stand within so many lists and structs: it has no MISSING, is in range and not too deep.
@@ -27,6 +28,14 @@ abbrev mutual
   pub PairsAreWritable : ℕ → Fields → Type 0
   PairsAreWritable depth no_fields = Unit {0}
   PairsAreWritable depth (field name v fs) = IsWritable depth v × PairsAreWritable depth fs
+
+-- the value may be a row
+unfoldable pub IsWritableRow : Val → Type 0
+IsWritableRow v = (is_struct v ≡ true) × IsWritable 0 v
+
+abbrev pub AreWritableRows : List Val → Type 0
+AreWritableRows [] = Unit {0}
+AreWritableRows (v ∷ vs) = IsWritableRow v × AreWritableRows vs
 
 -- the table has the text
 abbrev pub IsNumbered : Table → List ℕ → Type 0
