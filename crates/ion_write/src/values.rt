@@ -10,7 +10,6 @@ use crate::texts::{put_label, put_text};
 use crate::times::put_time;
 use crate::table::Table;
 use snel_values::{Items, OutOfMemory, Pairs, Value};
-use std::alloc::Global;
 
 /// Appends the cell of a number, nothing where it is out of range.
 fn put_int(out: &mut Vec<u8>, number: i128) -> Result<(), OutOfMemory>
@@ -25,7 +24,7 @@ fn put_int(out: &mut Vec<u8>, number: i128) -> Result<(), OutOfMemory>
 
 /// Appends the cell of a value.
 #[cycle(put)]
-pub(crate) fn append_value(alloc: Global, out: &mut Vec<u8>, value: &Value, table: &Table<'_>) -> Result<(), OutOfMemory>
+pub(crate) fn append_value(out: &mut Vec<u8>, value: &Value, table: &Table<'_>) -> Result<(), OutOfMemory>
     ensures { OnOk result (out.new.items ≡ out.old.items ++ meant.encode table.now (view value.now)) }
 {
     match value {
@@ -43,16 +42,16 @@ pub(crate) fn append_value(alloc: Global, out: &mut Vec<u8>, value: &Value, tabl
             Ok(())
         }
         Value::Int(number) => put_int(out, *number),
-        Value::Time(time) => put_time(alloc, out, *time),
+        Value::Time(time) => put_time(out, *time),
         Value::Text(text) => put_text(out, text.as_str(), table),
         Value::List(items) => {
             let start = out.len();
-            put_items(alloc, out, items, table)?;
+            put_items(out, items, table)?;
             close_cell(out, start, 11)
         }
         Value::Struct(pairs) => {
             let start = out.len();
-            put_pairs(alloc, out, pairs, table)?;
+            put_pairs(out, pairs, table)?;
             close_cell(out, start, 13)
         }
     }
@@ -60,24 +59,24 @@ pub(crate) fn append_value(alloc: Global, out: &mut Vec<u8>, value: &Value, tabl
 
 /// Appends the cells of the items, end to end.
 #[cycle(put)]
-fn put_items(alloc: Global, out: &mut Vec<u8>, items: &Items, table: &Table<'_>) -> Result<(), OutOfMemory>
+fn put_items(out: &mut Vec<u8>, items: &Items, table: &Table<'_>) -> Result<(), OutOfMemory>
     ensures { OnOk result (out.new.items ≡ out.old.items ++ meant.encode_items table.now (vals items.now)) }
 {
     for item in items.as_slice() {
-        append_value(alloc, out, item, table)?;
+        append_value(out, item, table)?;
     }
     Ok(())
 }
 
 /// Appends the labels and the cells of the pairs, end to end.
 #[cycle(put)]
-fn put_pairs(alloc: Global, out: &mut Vec<u8>, pairs: &Pairs, table: &Table<'_>) -> Result<(), OutOfMemory>
+fn put_pairs(out: &mut Vec<u8>, pairs: &Pairs, table: &Table<'_>) -> Result<(), OutOfMemory>
     ensures { OnOk result (out.new.items ≡ out.old.items ++ meant.encode_pairs table.now (fields pairs.now)) }
 {
     for at in 0..pairs.len() {
         let (name, value) = pair_at(pairs, at);
         put_label(out, name, table)?;
-        append_value(alloc, out, value, table)?;
+        append_value(out, value, table)?;
     }
     Ok(())
 }

@@ -9,18 +9,17 @@ ghost use Rattle.ion_write.specs.Appends.{AppendsCell};
 use crate::values::append_value;
 use crate::table::Table;
 use snel_values::{OutOfMemory, Value};
-use std::alloc::Global;
 
 /// Appends the cell of a value that may stand in a row: the one encoding of the value, which is a cell that denotes it.
-pub fn put_value(alloc: Global, out: &mut Vec<u8>, value: &Value, table: &Table<'_>) -> Result<(), OutOfMemory>
+pub fn put_value(value: &Value, table: &Table<'_>, into: &mut Vec<u8>) -> Result<(), OutOfMemory>
     requires writable { IsWritable 0 (view value.now) }
     requires light { meant.weight (view value.now) ≤ 16_000_000 }
     requires few { length table.now ≤ 16_000_000 }
     requires names { HasNames table.now (view value.now) }
-    ensures encodes { OnOk result (out.new.items ≡ out.old.items ++ encode table.now (view value.now)) }
-    ensures cell { OnOk result (AppendsCell table.now (view value.now) out.old.items out.new.items) }
+    ensures encodes { OnOk result (into.new.items ≡ into.old.items ++ encode table.now (view value.now)) }
+    ensures cell { OnOk result (AppendsCell table.now (view value.now) into.old.items into.new.items) }
 {
     table.know();
     value.know();
-    append_value(alloc, out, value, table)
+    append_value(into, value, table)
 }

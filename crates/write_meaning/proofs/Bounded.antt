@@ -123,7 +123,7 @@ mutual
   pair_texts_utf8 (field n v fs) h = both_utf8 (texts v) (pair_texts fs) (texts_utf8 v h.2) (pair_texts_utf8 fs h.3)
 
 -- what is counted is there
-counted : (s : List ℕ) (ss : List (List ℕ)) → 1 ≤ count_by (λ t. bytes_eq t s) ss → IsAmong s ss
+pub counted : (s : List ℕ) (ss : List (List ℕ)) → 1 ≤ count_by (λ t. bytes_eq t s) ss → IsAmong s ss
 counted s [] h = absurd (omega (arith, h))
 counted s (t ∷ ts) h = at (bytes_eq t s) refl (λ k. counted s ts k)
   where

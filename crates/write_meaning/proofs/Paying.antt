@@ -70,7 +70,7 @@ module _ (table : Table) where
 -- ---- each entry is paid for
 
 -- the amount, where the texts are equal
-abbrev at_same : Bool → ℕ → ℕ
+abbrev pub at_same : Bool → ℕ → ℕ
 at_same true a = a
 at_same false a = 0
 
@@ -83,7 +83,7 @@ abbrev by_texts : List ℕ → List (List ℕ) → ℕ
 by_texts t [] = 0
 by_texts t (s ∷ ss) = at_same (bytes_eq s t) (length s) + by_texts t ss
 
-itself : (s : List ℕ) → bytes_eq s s ≡ true
+pub itself : (s : List ℕ) → bytes_eq s s ≡ true
 itself s = (bytes_eq-Decides s s).1 refl
 
 named : (t : List ℕ) (ns : List (List ℕ)) → IsAmong t ns → 5 + length t ≤ by_names t ns
@@ -94,10 +94,10 @@ named t (n ∷ ns) (inl e) =
     rw is (omega (arith, long))
 named t (n ∷ ns) (inr h) = omega (arith, named t ns h)
 
-count : List ℕ → List (List ℕ) → ℕ
+unfoldable pub count : List ℕ → List (List ℕ) → ℕ
 count t ss = count_by (λ s. bytes_eq s t) ss
 
-counts : (t s : List ℕ) (ss : List (List ℕ)) → count t (s ∷ ss) ≡ at_same (bytes_eq s t) 1 + count t ss
+pub counts : (t s : List ℕ) (ss : List (List ℕ)) → count t (s ∷ ss) ≡ at_same (bytes_eq s t) 1 + count t ss
 unfolding count
 counts t s ss = sum_by-cons (λ s. cond (bytes_eq s t) 1 0) s ss ∙ ap (λ n. n + count t ss) (same (bytes_eq s t))
   where
@@ -105,7 +105,7 @@ counts t s ss = sum_by-cons (λ s. cond (bytes_eq s t) 1 0) s ss ∙ ap (λ n. n
     same true = refl
     same false = refl
 
-counts_none : (t : List ℕ) → count t [] ≡ 0
+pub counts_none : (t : List ℕ) → count t [] ≡ 0
 unfolding count
 counts_none t = refl
 
