@@ -5,3 +5,5 @@ pub mod Lookups
 pub mod Weighed
 pub mod PairsStand
 pub mod InOrder
+pub mod TableMade
+pub mod BlockMade

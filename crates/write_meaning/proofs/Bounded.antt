@@ -48,7 +48,7 @@ blocks_are_light table rows h =
 AreUtf8 : List (List ℕ) → Type 0
 AreUtf8 ss = (s : List ℕ) → IsAmong s ss → IsUtf8 s
 
-either : (a b : List (List ℕ)) (s : List ℕ) → IsAmong s (a ++ b) → IsAmong s a ⊎ IsAmong s b
+pub either : (a b : List (List ℕ)) (s : List ℕ) → IsAmong s (a ++ b) → IsAmong s a ⊎ IsAmong s b
 either [] b s h = inr h
 either (t ∷ ts) b s (inl e) = inl (inl e)
 either (t ∷ ts) b s (inr h) = at (either ts b s h)
