@@ -7,3 +7,4 @@ pub mod PairsStand
 pub mod InOrder
 pub mod TableMade
 pub mod BlockMade
+pub mod Mentioned
