@@ -1,0 +1,10 @@
+pub mod Dates
+pub mod Smaller
+pub mod Moments
+pub mod Lookups
+pub mod Weighed
+pub mod PairsStand
+pub mod InOrder
+pub mod TableMade
+pub mod BlockMade
+pub mod Mentioned

@@ -1,0 +1,5 @@
+pub mod PairAt
+pub mod Appends
+pub mod Counts
+pub mod Mentions
+pub mod Written

@@ -1,0 +1,12 @@
+pub mod Digits
+pub mod Numbering
+pub mod Heads
+pub mod Encoded
+pub mod DatesBack
+pub mod Timestamped
+pub mod ShortTimes
+pub mod Blocks
+pub mod BlockTables
+pub mod Placing
+pub mod Paying
+pub mod Bounded
