@@ -2,7 +2,10 @@ pub mod BitLemmas
 pub mod Choosing
 pub mod CountLanes
 pub mod Every
+pub mod Filled
 pub mod LaneKinds
 pub mod Legality
+pub mod SetBits
+pub mod Steps
 pub mod TimeFits
 pub mod TruthTables

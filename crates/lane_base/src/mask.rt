@@ -1,4 +1,4 @@
-ghost use Rattle.std.specs.Prelude.{◌≡◌, ◌<◌, ◌↔◌, ℕ, true, false, IsTrue, ◌&&◌, ◌||◌, not, count_by};
+ghost use Rattle.std.specs.Prelude.{◌≡◌, ◌<◌, ◌↔◌, ℕ, true, false, IsTrue, ◌&&◌, ◌||◌, not, nat_eq, count_by};
 ghost use Rattle.std.specs.List.{range_with_len};
 ghost use Rattle.lane_base.specs.Bits.{has};
 
@@ -32,6 +32,20 @@ impl LaneMask {
         ensures { result ≡ has self.0 lane }
     {
         (self.0 >> lane) & 1 == 1
+    }
+
+    /// The mask, and the lane, which is below 16, where it is to be in.
+    #[inline(always)]
+    #[tactic(auto, using(crate::proofs::SetBits::set_bit))]
+    pub fn with_lane(self, lane: u32, is_in: bool) -> LaneMask
+        requires { lane < 16 }
+        ensures { (i : ℕ) → has result.0 i ≡ ((nat_eq i lane && is_in) || has self.0 i) }
+    {
+        if is_in {
+            LaneMask(self.0 | 1 << lane)
+        } else {
+            self
+        }
     }
 
     /// The lanes of both masks.

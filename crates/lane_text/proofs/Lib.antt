@@ -12,6 +12,5 @@ pub mod Parts
 pub mod Percents
 pub mod Plain
 pub mod Search
-pub mod SetBits
 pub mod Steps
 pub mod TextLanes

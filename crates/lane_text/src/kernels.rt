@@ -1,6 +1,6 @@
 //! The kernels: the masks of the lanes that are texts, and a loop over those lanes alone.
 
-ghost use Rattle.std.specs.Prelude.{◌≡◌, ◌<◌, ℕ, true, ◌&&◌, ◌||◌, nat_eq, length, pos};
+ghost use Rattle.std.specs.Prelude.{◌≡◌, ◌<◌, ℕ, true, ◌&&◌, length, pos};
 ghost use Rattle.std.specs.Str.{IsUtf8, chars};
 ghost use Rattle.block_meaning.specs.Tables.{Table};
 ghost use Rattle.eval_meaning.specs.Matching.{matches, matching_of, char_length};
@@ -42,7 +42,7 @@ fn matching(pattern: &Pattern, spans: &SpanLanes<'_>, texts: LaneMask) -> LaneMa
 {
     let mut yes = LaneMask::none();
     for i in 0..16u32 {
-        yes = with_lane(yes, i, matches_in(pattern, spans, texts, i));
+        yes = yes.with_lane(i, matches_in(pattern, spans, texts, i));
     }
     yes
 }
@@ -81,13 +81,4 @@ fn length_in(spans: &SpanLanes<'_>, texts: LaneMask, lane: u32) -> i64
     } else {
         0
     }
-}
-
-/// The mask, and the lane, which is below 16, where it is to be in.
-#[tactic(auto, using(crate::proofs::SetBits::set_bit))]
-fn with_lane(m: LaneMask, lane: u32, is_in: bool) -> LaneMask
-    requires { lane < 16 }
-    ensures { (i : ℕ) → has result.0 i ≡ ((nat_eq i lane && is_in) || has m.0 i) }
-{
-    if is_in { LaneMask(m.0 | 1 << lane) } else { m }
 }

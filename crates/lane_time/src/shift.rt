@@ -1,6 +1,6 @@
 //! DATE_ADD.
 
-ghost use Rattle.std.specs.Prelude.{◌≡◌, ◌<◌, ◌≤◌, ℕ, ℤ, pos, true, IsTrue, Some, nat_eq, ◌&&◌, ◌||◌, ◌+ℤ◌, ◌*ℤ◌};
+ghost use Rattle.std.specs.Prelude.{◌≡◌, ◌<◌, ◌≤◌, ℕ, ℤ, pos, true, IsTrue, Some, ◌+ℤ◌, ◌*ℤ◌};
 ghost use Rattle.time_meaning.specs.Moments.{is_time, IsTime};
 ghost use Rattle.block_meaning.specs.Tables.{Table};
 ghost use Rattle.tree_meaning.specs.Parts.{is_added};
@@ -56,7 +56,7 @@ fn moved_nums(length: u64, counts: &IntLanes, times: &IntLanes) -> MovedLanes
     for i in 0..16usize {
         let moved = moved_by(length, counts.lanes[i], times.lanes[i]);
         lanes[i] = moved.time;
-        within = and_lane_if(within, i as u32, moved.within);
+        within = within.with_lane(i as u32, moved.within);
     }
     MovedLanes {
         nums: IntLanes { lanes },
@@ -118,14 +118,4 @@ fn length_of(part: Part) -> u64
         Part::Week => 604_800_000_000,
         _ => unreachable!(),
     }
-}
-
-// The mask, and the lane, which is below 16, too, where it is within.
-#[inline(always)]
-#[tactic(auto, using(crate::proofs::SetBits::set_bit))]
-fn and_lane_if(m: LaneMask, lane: u32, within: bool) -> LaneMask
-    requires { lane < 16 }
-    ensures { (i : ℕ) → has result.0 i ≡ ((nat_eq i lane && within) || has m.0 i) }
-{
-    if within { LaneMask(m.0 | 1 << lane) } else { m }
 }

@@ -2,7 +2,7 @@ use Rattle.std.proofs.Common.{arith}
 use Rattle.lane_field.specs.CellsOf.{cell_within}
 use Rattle.lane_field.specs.Kinds.{is_of_kind}
 use Rattle.lane_field.proofs.OwnTables.{within}
-use Rattle.lane_field.proofs.Steps.{next_lane}
+use Rattle.lane_base.proofs.Steps.{next_lane}
 use Rattle.lane_field.proofs.kinds.kinds16.Goals as goal
 
 pub loop-i-preserved : goal.loop-i-preserved

@@ -3,7 +3,7 @@ use Rattle.std.specs.Prelude.{unwrap_or}
 use Rattle.ion_cells.specs.Values.{text_in}
 use Rattle.lane_base.specs.Registers.{no_span}
 use Rattle.lane_field.specs.CellsOf.{cell_within, denoted}
-use Rattle.lane_field.proofs.Filled.{Filled}
+use Rattle.lane_base.proofs.Filled.{Filled}
 use Rattle.lane_field.proofs.load.texts16.Given as goal
 
 abbrev pub invariant-loop-i : goal.invariant-loop-i

@@ -3,7 +3,7 @@ use Rattle.std.specs.Prelude.{unwrap_or}
 use Rattle.ion_cells.specs.Values.{int_of}
 use Rattle.block_meaning.specs.Tables.{Table}
 use Rattle.lane_field.specs.CellsOf.{cell_within, denoted, AreCellsOf}
-use Rattle.lane_field.proofs.Filled.{Filled}
+use Rattle.lane_base.proofs.Filled.{Filled}
 use Rattle.lane_field.proofs.scalars.ints16.Given as goal
 
 abbrev pub invariant-loop-i : goal.invariant-loop-i

@@ -1,7 +1,7 @@
 use Rattle.std.proofs.Common.{◌≡◌, ◌<◌, length, Some}
 use Rattle.std.specs.Prelude.{slice_get}
 use Rattle.lane_base.specs.Registers.{no_span}
-use Rattle.lane_field.proofs.Filled.{Filled}
+use Rattle.lane_base.proofs.Filled.{Filled}
 use Rattle.lane_ssa.proofs.rows.spans_of.Given as goal
 
 abbrev pub invariant-loop-i : goal.invariant-loop-i

@@ -4,8 +4,8 @@ use Rattle.time_meaning.specs.Moments.{is_time}
 use Rattle.lane_base.specs.Bits.{has}
 use Rattle.lane_base.specs.Registers.{number_at}
 use Rattle.lane_time.specs.Moving.{moved_at, IsMoved}
-use Rattle.lane_time.proofs.Filled.{Filled-set}
-use Rattle.lane_time.proofs.Steps.{next_lane}
+use Rattle.lane_base.proofs.Filled.{Filled-set}
+use Rattle.lane_base.proofs.Steps.{next_lane}
 use Rattle.lane_time.proofs.shift.moved_nums.Goals as goal
 
 pub loop-i-preserved : goal.loop-i-preserved
@@ -20,7 +20,7 @@ loop-i-preserved c =
       long = simp length-set c.loop-i.invariant.long;
       within = λ k.
           next_lane (λ k. is_time (moved_at c.args.length c.args.counts.now.lanes c.args.times.now.lanes k)) k c.loop-i.i _ _
-          (c.and_lane_if-within.ensures k ∙ ap (λ b. (nat_eq k c.loop-i.i && b) || has c.loop-i.within.0 k) within) (c.loop-i.invariant.within k);
+          (c.with_lane-within.ensures k ∙ ap (λ b. (nat_eq k c.loop-i.i && b) || has c.loop-i.within.0 k) within) (c.loop-i.invariant.within k);
       moved =
           Filled-set (IsMoved c.args.length c.args.counts.now.lanes c.args.times.now.lanes) (pos 0) c.loop-i.lanes c.loop-i.i c.moved_by-moved.result.time room
           c.loop-i.invariant.moved (λ passes. moved (within ∙ passes));

@@ -3,7 +3,7 @@ use Rattle.std.specs.Prelude.{◌&&◌, nat_lt}
 use Rattle.time_meaning.specs.Moments.{is_time}
 use Rattle.lane_base.specs.Bits.{has}
 use Rattle.lane_time.specs.Moving.{moved_at, IsMoved}
-use Rattle.lane_time.proofs.Filled.{Filled}
+use Rattle.lane_base.proofs.Filled.{Filled}
 use Rattle.lane_time.proofs.shift.moved_nums.Given as goal
 
 abbrev pub invariant-loop-i : goal.invariant-loop-i
