@@ -13,8 +13,6 @@ mod printed;
 #[cfg(test)]
 mod printing_tests;
 #[cfg(test)]
-mod range_tests;
-#[cfg(test)]
 mod reasons;
 #[cfg(test)]
 mod refusal_tests;
