@@ -34,7 +34,7 @@ pub fn block_of(alloc: Global, rows: &[Value]) -> Result<Bytes, OutOfMemory>
 }
 
 /// What is written for the rows under their table.
-fn write_block(alloc: Global, rows: &[Value]) -> Result<Bytes, OutOfMemory>
+pub(crate) fn write_block(alloc: Global, rows: &[Value]) -> Result<Bytes, OutOfMemory>
     ensures { IfOk result (λ bytes. AreWritten (views rows.now) bytes) }
 {
     let table = table_of(alloc, rows)?;

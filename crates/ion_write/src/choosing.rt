@@ -35,14 +35,14 @@ fn put_in_order(texts: &mut Vec<&str>)
 }
 
 /// The texts that are there at least twice, maybe more than once each.
-fn repeated<'b>(alloc: Global, mut texts: Vec<&'b str>) -> Result<Vec<&'b str>, OutOfMemory>
-    ensures { IfOk result (λ twice. AreRepeated (shown texts.entry.items) (shown twice.items)) }
+fn repeated<'b>(alloc: Global, mut all: Vec<&'b str>) -> Result<Vec<&'b str>, OutOfMemory>
+    ensures { IfOk result (λ twice. AreRepeated (shown all.entry.items) (shown twice.items)) }
 {
-    texts.sort_unstable();
+    all.sort_unstable();
     let mut twice = Vec::new(alloc);
-    for at in 1..texts.len() {
-        let text = texts[at];
-        if texts[at - 1] == text {
+    for at in 1..all.len() {
+        let text = all[at];
+        if all[at - 1] == text {
             twice.push(text)?;
         }
     }

@@ -22,3 +22,6 @@ pub use standing::writable;
 pub use table::Table;
 pub use weighing::weight;
 pub use writing::put_value;
+
+#[cfg(test)]
+mod tests;

@@ -8,4 +8,4 @@ returns c =
     let sorted = c.sort_unstable.new.self.items in
     let none = repeats_end sorted c.loop-at.at (omega arith) in
     let all : shown c.loop-at.twice.items ++ [] ≡ repeats (shown sorted) = rw none at c.loop-at.invariant in
-    repeated c.args.texts.items sorted (shown c.loop-at.twice.items) c.sort_unstable.ensures.permutation c.sort_unstable.ensures.sorted (sym (append-nil (shown c.loop-at.twice.items)) ∙ all)
+    repeated c.args.all.items sorted (shown c.loop-at.twice.items) c.sort_unstable.ensures.permutation c.sort_unstable.ensures.sorted (sym (append-nil (shown c.loop-at.twice.items)) ∙ all)
