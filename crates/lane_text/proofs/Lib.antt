@@ -13,5 +13,7 @@ pub mod Percents
 pub mod Plain
 pub mod Search
 pub mod SetBits
+pub mod SignPlaces
+pub mod Skipping
 pub mod Steps
 pub mod TextLanes
