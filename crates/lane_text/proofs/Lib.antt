@@ -12,5 +12,7 @@ pub mod Parts
 pub mod Percents
 pub mod Plain
 pub mod Search
+pub mod SignPlaces
+pub mod Skipping
 pub mod Steps
 pub mod TextLanes

@@ -43,20 +43,20 @@ follow_at [] i f l = absurd (omega arith)
 follow_at (x ∷ xs) zero f l = (f.0, f.1)
 follow_at (x ∷ xs) (suc i) f l = follow_at xs i f.2 (omega arith)
 
-within_char : (c : ℕ) (text : List ℕ) (k : ℕ) → Lead c → suc k < length (encode c) → (128 ≤ get_or (encode c ++ text) (suc k) 0) × (get_or (encode c ++ text) (suc k) 0 < 192)
+pub within_char : (c : ℕ) (text : List ℕ) (k : ℕ) → Lead c → suc k < length (encode c) → (128 ≤ get_or (encode c ++ text) (suc k) 0) × (get_or (encode c ++ text) (suc k) 0 < 192)
 within_char c text k l h =
     let at : get_or (encode c ++ text) (suc k) 0 ≡ get_or l.others k 0 = get_or_append_left (encode c) text 0 (suc k) h ∙ ap (λ x. get_or x (suc k) 0) l.is in
     let range = follow_at l.others k l.follow (omega (arith, ap length l.is)) in
     (omega (arith, range.0), omega (arith, range.1))
 
-first_lead : (piece : List ℕ) (cs : List ℕ) → scalars cs ≡ true → encodes cs ≡ piece → 0 < length piece → IsLead (get_or piece 0 0)
+pub first_lead : (piece : List ℕ) (cs : List ℕ) → scalars cs ≡ true → encodes cs ≡ piece → 0 < length piece → IsLead (get_or piece 0 0)
 first_lead piece [] s e l = absurd (omega (arith, ap length e))
 first_lead piece (c ∷ cs) s e l =
     let parts = laws.both (scalar c) (scalars cs) s in
     let form = lead c parts.0 in
     subst IsLead (ap (λ x. get_or (x ++ encodes cs) 0 0) (sym form.is) ∙ ap (λ x. get_or x 0 0) e) form.leads
 
-not_within : (b : ℕ) → IsLead b → 128 ≤ b → b < 192 → ⊥
+pub not_within : (b : ℕ) → IsLead b → 128 ≤ b → b < 192 → ⊥
 not_within b (inl h) l m = omega arith
 not_within b (inr h) l m = omega arith
 

@@ -4,10 +4,11 @@
 ghost use Rattle.std.specs.Prelude.{◌≡◌, ◌+◌, ◌≤◌, IsUtf8, IfSome, length, drop};
 ghost use Rattle.std.specs.Str.{chars, continuation_len};
 ghost use Rattle.lane_text.specs.Bytewise as spec;
-ghost use Rattle.lane_text.specs.Bytewise.{folded, after_bytes, IsByteRest, IsRest, IsPlain};
+ghost use Rattle.lane_text.specs.Bytewise.{folded, after_bytes, IsByteRest, IsRest, IsPlain, Halts, Skips};
 ghost use Rattle.lane_text.specs.Pieces.{after_piece, after_first, is_whole, ends_in};
 
 use memchr::memmem::Finder;
+use memchr::{memchr, memchr2};
 
 /// Where the piece ends, if the text begins with it.
 pub(crate) fn after_piece(piece: &[u8], fold: bool, text: &[u8]) -> Option<usize>
@@ -26,12 +27,13 @@ pub(crate) fn first_by_scan(piece: &[u8], fold: bool, text: &[u8]) -> Option<usi
     ensures rest { let whole = folded fold text.now in IsUtf8 whole
         → IsRest whole (after_first (chars piece.now) (chars whole)) result }
 {
-    let mut at = 0;
+    let mut at = next_place(piece, fold, text, 0);
     while at < text.len() {
         if let Some(end) = after_piece_at(piece, fold, text, at) {
             return Some(end);
         }
-        at = text.len().min(at + width(folded_byte(fold, text[at])));
+        let next = text.len().min(at + width(folded_byte(fold, text[at])));
+        at = next_place(piece, fold, text, next);
     }
     after_piece_at(piece, fold, text, at)
 }
@@ -42,12 +44,13 @@ pub(crate) fn ends_by_scan(piece: &[u8], fold: bool, text: &[u8]) -> bool
     ensures { let whole = folded fold text.now in IsUtf8 whole
         → result ≡ ends_in (chars piece.now) (chars whole) }
 {
-    let mut at = 0;
+    let mut at = next_place(piece, fold, text, 0);
     while at < text.len() {
         if is_whole_at(piece, fold, text, at) {
             return true;
         }
-        at = text.len().min(at + width(folded_byte(fold, text[at])));
+        let next = text.len().min(at + width(folded_byte(fold, text[at])));
+        at = next_place(piece, fold, text, next);
     }
     is_whole_at(piece, fold, text, at)
 }
@@ -116,6 +119,34 @@ fn is_whole_at(piece: &[u8], fold: bool, text: &[u8], at: usize) -> bool
         None => false,
         Some(end) => end == text.len(),
     }
+}
+
+/// The first place from a place on at which the piece may stand: at which the text has its first byte, or the end; the place
+/// itself, where the piece is empty or begins with `_`.
+fn next_place(piece: &[u8], fold: bool, text: &[u8], at: usize) -> usize
+    requires is_text { IsUtf8 piece.now }
+    requires begins_within { at ≤ length text.now }
+    ensures onward { at ≤ result }
+    ensures within { result ≤ length text.now }
+    ensures rest { let whole = folded fold text.now in IsUtf8 (drop at whole)
+        → Skips (chars piece.now) (drop at whole) (drop result whole) }
+{
+    if piece.is_empty() || piece[0] == b'_' {
+        return at;
+    }
+    at + place_of(piece[0], fold, &text[at..])
+}
+
+/// The first place at which the text has the sign, or its end. With `fold` it may be a place with the sign's upper case.
+fn place_of(sign: u8, fold: bool, text: &[u8]) -> usize
+    ensures { Halts sign (folded fold text.now) result }
+{
+    let found = if fold {
+        memchr2(sign, sign.to_ascii_uppercase(), text)
+    } else {
+        memchr(sign, text)
+    };
+    found.unwrap_or(text.len())
 }
 
 /// Where the piece ends, if the bytes begin with it. A `_` takes a first byte and those that follow it.
