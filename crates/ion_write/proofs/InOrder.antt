@@ -160,9 +160,11 @@ twice_there (t ∷ u ∷ us) s h = at (bytes_eq t u) refl (λ k. twice_there (u 
   where
     here : t ≡ u → s ≡ u → 2 ≤ count s (t ∷ u ∷ us)
     here e f = omega (arith, count_is s t (u ∷ us) true (same_of t s (e ∙ sym f)), count_is s u us true (same_of u s (sym f)))
+
     new : t ≡ u → (IsAmong s (repeats (u ∷ us)) → 2 ≤ count s (u ∷ us)) → IsAmong s (u ∷ repeats (u ∷ us)) → 2 ≤ count s (t ∷ u ∷ us)
     new e rest (inl f) = here e f
     new e rest (inr k) = omega (arith, rest k, some_count s t (u ∷ us))
+
     at : (b : Bool) → bytes_eq t u ≡ b → (IsAmong s (repeats (u ∷ us)) → 2 ≤ count s (u ∷ us)) → 2 ≤ count s (t ∷ u ∷ us)
     at true e rest = new ((bytes_eq-Decides t u).0 e) rest (rw e at h)
     at false e rest = omega (arith, rest (rw e at h), some_count s t (u ∷ us))
@@ -179,6 +181,7 @@ there_twice (t ∷ u ∷ us) s c h = at (bytes_eq t s) refl (λ k. there_twice (
     later : (b : Bool) → bytes_eq t u ≡ b → IsAmong s (repeats (u ∷ us)) → IsAmong s (repeats (t ∷ u ∷ us))
     later true e k = rw e (inr k)
     later false e k = rw e k
+
     at : (b : Bool) → bytes_eq t s ≡ b → (2 ≤ count s (u ∷ us) → IsAmong s (repeats (u ∷ us))) → IsAmong s (repeats (t ∷ u ∷ us))
     at false e rest =
         let fewer = count_is s t (u ∷ us) false e in

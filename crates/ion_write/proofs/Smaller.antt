@@ -44,7 +44,6 @@ pairs_from fs i name v p =
     let next : i + 1 ≡ suc i = omega arith in
     rw (next, pairs_ahead fs i (name, v) p.found) refl
 
-
 -- one more item is written
 pub item_written : (table : Table) (all : List Val) (xs : List Value) (i : ℕ) (x : Value) (old new whole : List ℕ) → i < length xs → x ≡ get_or xs i x → new ≡ old ++ encode table (view x)
     → old ++ encode_items table (vals (views (drop i xs))) ≡ whole → new ++ encode_items table (vals (views (drop (i + 1) xs))) ≡ whole

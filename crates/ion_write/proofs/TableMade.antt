@@ -114,9 +114,10 @@ module _ (rows : Vals) (table : Table) (m : IsMade rows table) (s : List ℕ) wh
   together (inr h) = in_second m.first m.second s (to_second h)
 
   there : IsAmong s table ↔ (IsAmong s (item_names rows) ⊎ IsRepeated rows s)
-  there =
-      (λ h. parted (either m.first m.second s (subst (IsAmong s) m.joined_are ((m.ordered.each s).0 h))),
-        λ h. (m.ordered.each s).1 (subst (IsAmong s) (sym m.joined_are) (together h)))
+  there = (
+    λ h. parted (either m.first m.second s (subst (IsAmong s) m.joined_are ((m.ordered.each s).0 h))),
+    λ h. (m.ordered.each s).1 (subst (IsAmong s) (sym m.joined_are) (together h)),
+  )
 
 pub table_made : (rows : Vals) (table : Table) → IsMade rows table → IsTableOf rows table
 table_made rows table m = record { rise = m.ordered.rise; each = λ s. there rows table m s }

@@ -22,7 +22,12 @@ pub(crate) fn put_head(out: &mut Vec<u8>, kind: u8, count: usize) -> Result<(), 
 
 /// Appends a cell of this type whose payload is a magnitude of at most `room` bytes.
 #[tactic(auto, unfolding(write_meaning::specs::Encoding::cell_bytes))]
-pub(crate) fn put_magnitude(out: &mut Vec<u8>, kind: u8, number: u64, room: usize) -> Result<(), OutOfMemory>
+pub(crate) fn put_magnitude(
+    out: &mut Vec<u8>,
+    kind: u8,
+    number: u64,
+    room: usize,
+) -> Result<(), OutOfMemory>
     requires kind { kind ≤ 14 }
     requires room { room ≤ 8 }
     ensures { OnOk result (out.new.items ≡ out.old.items ++ meant.cell_bytes kind (meant.digits 256 room number)) }

@@ -9,7 +9,11 @@ use crate::place::pair_at;
 use snel_values::{Items, OutOfMemory, Pairs, Value};
 
 /// Appends the names of the rows' structs, at every depth, and their texts of 3 to 32 bytes.
-pub(crate) fn mention_rows<'b>(rows: &'b [Value], names: &mut Vec<&'b str>, texts: &mut Vec<&'b str>) -> Result<(), OutOfMemory>
+pub(crate) fn mention_rows<'b>(
+    rows: &'b [Value],
+    names: &mut Vec<&'b str>,
+    texts: &mut Vec<&'b str>,
+) -> Result<(), OutOfMemory>
     ensures names { OnOk result (Adds names.old.items names.new.items (meant.item_names (vals (views rows.now)))) }
     ensures texts { OnOk result (AddsShort texts.old.items texts.new.items (meant.item_texts (vals (views rows.now)))) }
 {
@@ -30,7 +34,11 @@ fn mention_text<'b>(text: &'b str, texts: &mut Vec<&'b str>) -> Result<(), OutOf
 }
 
 #[cycle(mention)]
-fn mention<'b>(value: &'b Value, names: &mut Vec<&'b str>, texts: &mut Vec<&'b str>) -> Result<(), OutOfMemory>
+fn mention<'b>(
+    value: &'b Value,
+    names: &mut Vec<&'b str>,
+    texts: &mut Vec<&'b str>,
+) -> Result<(), OutOfMemory>
     ensures names { OnOk result (Adds names.old.items names.new.items (meant.names (view value.now))) }
     ensures texts { OnOk result (AddsShort texts.old.items texts.new.items (meant.texts (view value.now))) }
 {
@@ -43,7 +51,11 @@ fn mention<'b>(value: &'b Value, names: &mut Vec<&'b str>, texts: &mut Vec<&'b s
 }
 
 #[cycle(mention)]
-fn mention_items<'b>(items: &'b Items, names: &mut Vec<&'b str>, texts: &mut Vec<&'b str>) -> Result<(), OutOfMemory>
+fn mention_items<'b>(
+    items: &'b Items,
+    names: &mut Vec<&'b str>,
+    texts: &mut Vec<&'b str>,
+) -> Result<(), OutOfMemory>
     ensures names { OnOk result (Adds names.old.items names.new.items (meant.item_names (vals items.now))) }
     ensures texts { OnOk result (AddsShort texts.old.items texts.new.items (meant.item_texts (vals items.now))) }
 {
@@ -54,7 +66,11 @@ fn mention_items<'b>(items: &'b Items, names: &mut Vec<&'b str>, texts: &mut Vec
 }
 
 #[cycle(mention)]
-fn mention_pairs<'b>(pairs: &'b Pairs, names: &mut Vec<&'b str>, texts: &mut Vec<&'b str>) -> Result<(), OutOfMemory>
+fn mention_pairs<'b>(
+    pairs: &'b Pairs,
+    names: &mut Vec<&'b str>,
+    texts: &mut Vec<&'b str>,
+) -> Result<(), OutOfMemory>
     ensures names { OnOk result (Adds names.old.items names.new.items (meant.pair_names (fields pairs.now))) }
     ensures texts { OnOk result (AddsShort texts.old.items texts.new.items (meant.pair_texts (fields pairs.now))) }
 {

@@ -21,7 +21,12 @@ pub(crate) fn count_digits(number: u64, base: u64, room: usize) -> usize
 
 /// Appends the digits of the number in the base, at most `room`, the most significant first.
 #[tactic(auto, unfolding(write_meaning::specs::Encoding::digits))]
-pub(crate) fn put_digits(out: &mut Vec<u8>, number: u64, base: u64, room: usize) -> Result<(), OutOfMemory>
+pub(crate) fn put_digits(
+    out: &mut Vec<u8>,
+    number: u64,
+    base: u64,
+    room: usize,
+) -> Result<(), OutOfMemory>
     requires low { 2 ≤ base }
     requires high { base ≤ 256 }
     ensures { OnOk result (out.new.items ≡ out.old.items ++ meant.digits base room number) }

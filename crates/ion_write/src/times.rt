@@ -47,8 +47,18 @@ fn put_moment(out: &mut Vec<u8>, clock: Clock) -> Result<(), OutOfMemory>
     ensures { OnOk result (out.new.items ≡ out.old.items ++ meant.moment_bytes clock.year clock.month clock.day (clock.second / 3600) (clock.second / 60 % 60) (clock.second % 60) clock.micros) }
 {
     out.push(128)?;
-    put_three(out, u32::from(clock.year), u32::from(clock.month), u32::from(clock.day))?;
-    put_three(out, clock.second / 3600, clock.second / 60 % 60, clock.second % 60)?;
+    put_three(
+        out,
+        u32::from(clock.year),
+        u32::from(clock.month),
+        u32::from(clock.day),
+    )?;
+    put_three(
+        out,
+        clock.second / 3600,
+        clock.second / 60 % 60,
+        clock.second % 60,
+    )?;
     put_micros(out, clock.micros)
 }
 

@@ -6,9 +6,9 @@ ghost use Rattle.write_meaning.specs.Encoding as meant;
 
 use crate::heads::{close_cell, put_magnitude};
 use crate::place::pair_at;
+use crate::table::Table;
 use crate::texts::{put_label, put_text};
 use crate::times::put_time;
-use crate::table::Table;
 use snel_values::{Items, OutOfMemory, Pairs, Value};
 
 /// Appends the cell of a number, nothing where it is out of range.
@@ -24,7 +24,11 @@ fn put_int(out: &mut Vec<u8>, number: i128) -> Result<(), OutOfMemory>
 
 /// Appends the cell of a value.
 #[cycle(put)]
-pub(crate) fn append_value(out: &mut Vec<u8>, value: &Value, table: &Table<'_>) -> Result<(), OutOfMemory>
+pub(crate) fn append_value(
+    out: &mut Vec<u8>,
+    value: &Value,
+    table: &Table<'_>,
+) -> Result<(), OutOfMemory>
     ensures { OnOk result (out.new.items ≡ out.old.items ++ meant.encode table.now (view value.now)) }
 {
     match value {

@@ -6,8 +6,8 @@ ghost use Rattle.write_meaning.specs.Standing.{IsWritable, HasNames};
 ghost use Rattle.write_meaning.specs.Weights as meant;
 ghost use Rattle.ion_write.specs.Appends.{AppendsCell};
 
-use crate::values::append_value;
 use crate::table::Table;
+use crate::values::append_value;
 use snel_values::{OutOfMemory, Value};
 
 /// Appends the cell of a value that may stand in a row: the one encoding of the value, which is a cell that denotes it.

@@ -176,8 +176,18 @@ module _ (table : Table) (serves : Serves table) where
         let l = h.0.0 in
         let e : number_of table n ≡ Some l = h.0.1 in
         let small = number_small table n l serves.few e in
-        rw e (l, var_uint_bytes l, encode table v, encode_pairs table fs, refl, from l e, (number_stands table n l e).1, var_uint_spelled l (omega arith),
-          stands depth v s.2 w.0 h.1 (omega arith), pairs_stand depth (suc l) fs s.3 w.1 h.2 (omega arith) (starts_next table n l fs serves.rise e s.1))
+        rw e (
+          l,
+          var_uint_bytes l,
+          encode table v,
+          encode_pairs table fs,
+          refl,
+          from l e,
+          (number_stands table n l e).1,
+          var_uint_spelled l (omega arith),
+          stands depth v s.2 w.0 h.1 (omega arith),
+          pairs_stand depth (suc l) fs s.3 w.1 h.2 (omega arith) (starts_next table n l fs serves.rise e s.1),
+        )
 
 times_serve : TimesServe
 times_serve = record { short = time_short; stand = time_stamped }

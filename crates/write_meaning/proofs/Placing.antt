@@ -66,16 +66,20 @@ has q s (t ∷ ts) = at (slice_cmp nat_cmp s t) refl (has q s ts)
     swap : IsAmong q (s ∷ ts) → IsAmong q (s ∷ t ∷ ts)
     swap (inl e) = inl e
     swap (inr h) = inr (inr h)
+
     forth : (IsAmong q (placed s ts) → IsAmong q (s ∷ ts)) → IsAmong q (t ∷ placed s ts) → IsAmong q (s ∷ t ∷ ts)
     forth f (inl e) = inr (inl e)
     forth f (inr h) = swap (f h)
+
     back : (IsAmong q (s ∷ ts) → IsAmong q (placed s ts)) → IsAmong q (s ∷ t ∷ ts) → IsAmong q (t ∷ placed s ts)
     back f (inl e) = inr (f (inl e))
     back f (inr (inl e)) = inl e
     back f (inr (inr h)) = inr (f (inr h))
+
     once : s ≡ t → IsAmong q (s ∷ t ∷ ts) → IsAmong q (t ∷ ts)
     once same (inl e) = inl (e ∙ same)
     once same (inr h) = h
+
     at : (o : Ordering) → slice_cmp nat_cmp s t ≡ o → (IsAmong q (placed s ts) ↔ IsAmong q (s ∷ ts)) → IsAmong q (placed s (t ∷ ts)) ↔ IsAmong q (s ∷ t ∷ ts)
     at Less e later = subst (λ w. IsAmong q w ↔ IsAmong q (s ∷ t ∷ ts)) (sym (first_placed s t ts e)) (λ h. h, λ h. h)
     at Equal e later = subst (λ w. IsAmong q w ↔ IsAmong q (s ∷ t ∷ ts)) (sym (there_already s t ts e)) (λ h. inr h, once (equal_is s t e))

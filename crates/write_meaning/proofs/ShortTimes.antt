@@ -67,13 +67,22 @@ micros_short u h = at (eqb u 0) refl
 moment_short : (y m d h k s u : ℕ) → y ≤ 9999 → m ≤ 12 → d ≤ 31 → h ≤ 23 → k ≤ 59 → s ≤ 59 → u < 1_000_000 → length (moment_bytes y m d h k s u) ≤ 12
 unfolding moment_bytes
 moment_short y m d h k s u yy mm dd hh kk ss uu =
-    omega (arith, var_uint_two y (omega arith), var_uint_one m (omega arith), var_uint_one d (omega arith), var_uint_one h (omega arith), var_uint_one k (omega arith), var_uint_one s (omega arith), micros_short u uu,
+    omega (
+      arith,
+      var_uint_two y (omega arith),
+      var_uint_one m (omega arith),
+      var_uint_one d (omega arith),
+      var_uint_one h (omega arith),
+      var_uint_one k (omega arith),
+      var_uint_one s (omega arith),
+      micros_short u uu,
       length-append (var_uint_bytes y) (var_uint_bytes m ++ (var_uint_bytes d ++ (var_uint_bytes h ++ (var_uint_bytes k ++ (var_uint_bytes s ++ micros_bytes u))))),
       length-append (var_uint_bytes m) (var_uint_bytes d ++ (var_uint_bytes h ++ (var_uint_bytes k ++ (var_uint_bytes s ++ micros_bytes u)))),
       length-append (var_uint_bytes d) (var_uint_bytes h ++ (var_uint_bytes k ++ (var_uint_bytes s ++ micros_bytes u))),
       length-append (var_uint_bytes h) (var_uint_bytes k ++ (var_uint_bytes s ++ micros_bytes u)),
       length-append (var_uint_bytes k) (var_uint_bytes s ++ micros_bytes u),
-      length-append (var_uint_bytes s) (micros_bytes u))
+      length-append (var_uint_bytes s) (micros_bytes u),
+    )
 
 pub time_short : (t : ℤ) → is_time t ≡ true → length (time_bytes t) ≤ 12
 unfolding time_bytes

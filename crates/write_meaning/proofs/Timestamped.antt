@@ -95,15 +95,21 @@ stamped y m d h k s u civil past hours minutes seconds few =
       minutes = 0;
       offset = 128 ∷ [];
       fields = var_uint_bytes y ++ (var_uint_bytes m ++ (var_uint_bytes d ++ (var_uint_bytes h ++ (var_uint_bytes k ++ (var_uint_bytes s ++ micros_bytes u)))));
-      year = y; month = m; day = d; hour = h; minute = k; second = s; micros = u;
+      year = y;
+      month = m;
+      day = d;
+      hour = h;
+      minute = k;
+      second = s;
+      micros = u;
       parts = refl;
       spells = offset;
       within = omega arith;
       stand = leads y (MayLead 1 m (MayLead 1 d (ClockLeads h k (MayLead 0 s (IsMicros u))))) _ (omega arith)
-      (may_lead 1 m (MayLead 1 d (ClockLeads h k (MayLead 0 s (IsMicros u)))) _ (omega (arith, civil.1.1))
-      (may_lead 1 d (ClockLeads h k (MayLead 0 s (IsMicros u))) (var_uint_bytes h ++ (var_uint_bytes k ++ (var_uint_bytes s ++ micros_bytes u))) (omega arith)
-      (clock_leads_by h k (MayLead 0 s (IsMicros u)) (var_uint_bytes h) (var_uint_bytes k ++ (var_uint_bytes s ++ micros_bytes u)) (var_uint_spelled h (omega arith))
-      (leads k (MayLead 0 s (IsMicros u)) (var_uint_bytes s ++ micros_bytes u) (omega arith) (may_lead 0 s (IsMicros u) (micros_bytes u) (omega arith) (is_micros u few))))));
+          (may_lead 1 m (MayLead 1 d (ClockLeads h k (MayLead 0 s (IsMicros u)))) _ (omega (arith, civil.1.1))
+          (may_lead 1 d (ClockLeads h k (MayLead 0 s (IsMicros u))) (var_uint_bytes h ++ (var_uint_bytes k ++ (var_uint_bytes s ++ micros_bytes u))) (omega arith)
+          (clock_leads_by h k (MayLead 0 s (IsMicros u)) (var_uint_bytes h) (var_uint_bytes k ++ (var_uint_bytes s ++ micros_bytes u)) (var_uint_spelled h (omega arith))
+          (leads k (MayLead 0 s (IsMicros u)) (var_uint_bytes s ++ micros_bytes u) (omega arith) (may_lead 0 s (IsMicros u) (micros_bytes u) (omega arith) (is_micros u few))))));
       past = past;
       date = (civil.0, (omega (arith, signed_arith, civil.1.0), omega (arith, signed_arith, civil.1.1)), (omega (arith, signed_arith, civil.2.0), omega (arith, signed_arith, civil.2.1)));
       hours = hours;
