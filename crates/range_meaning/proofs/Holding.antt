@@ -1,5 +1,5 @@
 -- A comparison that holds has a time in the interval.
-use Rattle.std.proofs.Common.{◌≡◌, ℤ, Bool, true, false, refl, sym, ap, ◌∙◌, arith, ◌⊎◌, inl, inr, subst, ⊎_elim}
+use Rattle.std.proofs.Common.{◌≡◌, ℤ, true, false, refl, sym, ◌∙◌, arith, ◌⊎◌, inl, inr, subst, ⊎_elim}
 use Rattle.std.specs.Prelude.{FitsSigned}
 use Rattle.std.specs.Int.{w64}
 use Rattle.std.specs.Ordering.{int_cmp}
@@ -139,5 +139,5 @@ allowed_by_both v b c =
     ⊎_elim
     (λ (e : b ≡ All) (q : IsAllowed v c). subst (λ (x : Bounds). IsAllowed v (meet x c)) (sym e) q)
     (λ (p : IsTimeIn v b). ⊎_elim
-      (λ (e : c ≡ All). subst (λ (x : Bounds). IsAllowed v (meet b x)) (sym e) (subst (λ (x : Bounds). IsAllowed v x) (sym (meet_all b)) (inr p)))
-      (λ (q : IsTimeIn v c). inr (time_in_both v b c p q)))
+    (λ (e : c ≡ All). subst (λ (x : Bounds). IsAllowed v (meet b x)) (sym e) (subst (λ (x : Bounds). IsAllowed v x) (sym (meet_all b)) (inr p)))
+    (λ (q : IsTimeIn v c). inr (time_in_both v b c p q)))

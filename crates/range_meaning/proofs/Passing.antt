@@ -1,13 +1,13 @@
 -- A row that passes a WHERE has a time of the field that lies in the bounds, where there are bounds.
-use Rattle.std.proofs.Common.{◌≡◌, ◌≢◌, ◌≤◌, ℕ, zero, suc, ℤ, pos, negsuc, Bool, true, false, cond, List, [], ◌∷◌, ◌++◌, map, Option, Some, None, refl, sym, ap, ◌∙◌, arith, inl, inr, subst, ⊎_elim}
+use Rattle.std.proofs.Common.{◌≡◌, ◌≢◌, ◌≤◌, ℕ, zero, ℤ, pos, negsuc, Bool, true, false, cond, List, [], ◌∷◌, Option, Some, None, refl, sym, ap, arith, inl, inr, subst, ⊎_elim}
 use Rattle.std.specs.Prelude.{FitsSigned, ◌≤ℤ◌}
 use Rattle.std.specs.Int.{w64}
 use Rattle.std.specs.Cmp.Lexicographic.{same_text}
 use Rattle.std.proofs.lemmas.Int.{ints}
-use Rattle.value_meaning.specs.Val.{Val, missing, null, truth, int, time, text, list, struct}
+use Rattle.value_meaning.specs.Val.{Val, time}
 use Rattle.tree_meaning.specs.declared.BinOp.{BinOp}
 use Rattle.tree_meaning.specs.declared.BinOp.TheVariants as op
-use Rattle.tree_meaning.specs.Tree.{Ex, Step, name, at, lit, path, bin, between}
+use Rattle.tree_meaning.specs.Tree.{Ex, Step, name, lit, path, bin, between}
 use Rattle.eval_meaning.specs.Logic.{is_true}
 use Rattle.eval_meaning.specs.Pair.{alone}
 use Rattle.eval_meaning.specs.Paths.{step_of, path_of}
@@ -16,8 +16,7 @@ use Rattle.eval_meaning.specs.Comparisons.{between_of}
 use Rattle.eval_meaning.specs.Passed.{is_kept}
 use Rattle.file_meaning.specs.Files.{Entry}
 use Rattle.range_meaning.specs.declared.Bounds.{Bounds}
-use Rattle.range_meaning.specs.declared.Bounds.TheVariants.{All, Between}
-use Rattle.range_meaning.specs.Intervals.{interval, meet, LiesIn}
+use Rattle.range_meaning.specs.declared.Bounds.TheVariants.{All}
 use Rattle.range_meaning.specs.Binding.{conjuncts, is_name, is_field, moment_of, mirrored, against, within, bounds_of, bounds_of_all, bounds}
 use Rattle.range_meaning.specs.Excluded.{LiesWithin, IsExcluded, HoldsWithin}
 use Rattle.range_meaning.specs.Laws.{HasTimes}

@@ -1,7 +1,7 @@
 -- Which conjuncts of a WHERE bind a field, and the bounds that they leave.
-use Rattle.std.specs.Prelude.{ℕ, zero, suc, ℤ, Bool, false, List, [], ◌∷◌, ◌++◌, map, fold, Option, Some, None, if◌then◌else◌}
+use Rattle.std.specs.Prelude.{ℕ, zero, ℤ, Bool, false, List, [], ◌∷◌, ◌++◌, map, fold, Option, Some, None, if◌then◌else◌}
 use Rattle.std.specs.Str.{bytes_eq}
-use Rattle.value_meaning.specs.Val.{Val, time}
+use Rattle.value_meaning.specs.Val.{time}
 use Rattle.tree_meaning.specs.declared.BinOp.{BinOp}
 use Rattle.tree_meaning.specs.declared.BinOp.TheVariants as op
 use Rattle.tree_meaning.specs.Tree.{Ex, Step, name, lit, path, bin, between}
