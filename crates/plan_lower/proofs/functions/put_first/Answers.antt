@@ -14,12 +14,11 @@ put-requires c =
     let mid = c.loop-at.builder in
     let h = c.loop-at.invariant in
     record {
-      names =
-          (
-            mask_known old mid c.args.mask h.extends c.requires.mask,
-            h.made,
-            value_known old mid c.register_at-b.result h.extends (all_at (λ (r : ℕ). r < value_count old) c.args.args.now c.loop-at.at c.register_at-b.result c.register_at-b.ensures c.requires.values),
-          );
+      names = (
+        mask_known old mid c.args.mask h.extends c.requires.mask,
+        h.made,
+        value_known old mid c.register_at-b.result h.extends (all_at (λ (r : ℕ). r < value_count old) c.args.args.now c.loop-at.at c.register_at-b.result c.register_at-b.ensures c.requires.values),
+      );
     }
 
 pub loop-at-init : goal.loop-at-init
