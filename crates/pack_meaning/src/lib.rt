@@ -38,3 +38,18 @@ pub fn lines_are_split()
 pub fn cuts_are_made()
     ensures { CutsAreMade }
 {}
+
+/// The table that is written is the table of the rows.
+pub fn tables_are_of_rows()
+    ensures { TablesAreOfRows }
+{}
+
+/// The file of rows is a block file of just these rows, whose entries are sound.
+pub fn files_hold_rows()
+    ensures { FilesHoldRows }
+{}
+
+/// However rows are cut, their files hold the same rows, and no others.
+pub fn cuts_hold_the_same()
+    ensures { CutsHoldTheSame }
+{}
