@@ -10,12 +10,13 @@ use snel_values::{OutOfMemory, Pairs, Text, Value};
 use std::alloc::Global;
 
 /// The row with this number, counted from 0, from its state.
+#[tactic(auto, using(crate::proofs::Places::status_fits, crate::proofs::Places::time_fits, crate::proofs::Places::row_is))]
 pub(crate) fn make_row(alloc: Global, number: u32, state: u64) -> Result<Value, OutOfMemory>
     ensures { IfOk result (λ row. view row ≡ meant.row_from number state) }
 {
     let mut pairs = make_first_pairs(alloc, state)?;
     put_status(alloc, &mut pairs, number, state)?;
-    let time = 1_700_000_000_000_000 + i64::from(number) * 1_000_000;
+    let time = time_of(number);
     pairs.push(Text::of(alloc, "time")?, Value::Time(time))?;
     Ok(Value::Struct(pairs))
 }
@@ -47,12 +48,7 @@ fn make_first_pairs(alloc: Global, state: u64) -> Result<Pairs, OutOfMemory>
 
 /// Adds the status, where the row has one.
 #[tactic(auto, unfolding(log_meaning::specs::Rows::status_pairs))]
-fn put_status(
-    alloc: Global,
-    pairs: &mut Pairs,
-    number: u32,
-    state: u64,
-) -> Result<(), OutOfMemory>
+fn put_status(alloc: Global, pairs: &mut Pairs, number: u32, state: u64) -> Result<(), OutOfMemory>
     requires { IsAboveLast (codes "status") pairs.old }
     ensures { OnOk result (pairs.new ≡ pairs.old ++ meant.status_pairs number state) }
 {
@@ -71,6 +67,13 @@ fn status_value(number: u32, state: u64) -> Value
     } else {
         Value::Int(i128::from(status_of(state)))
     }
+}
+
+/// The time: one row a second, in microseconds since 1970.
+fn time_of(number: u32) -> i64
+    ensures { result ≡ meant.time_of number }
+{
+    1_700_000_000_000_000 + i64::from(number) * 1_000_000
 }
 
 /// The program that asks.
