@@ -17,7 +17,7 @@ use Rattle.eval_meaning.specs.Paths.{step_of}
 use Rattle.range_meaning.specs.declared.Bounds.{Bounds}
 use Rattle.range_meaning.specs.declared.Bounds.TheVariants.{All, Between}
 use Rattle.range_meaning.specs.Excluded.{LiesWithin, IsExcluded, HoldsWithin, IsSoundEntry}
-use Rattle.scan_meaning.specs.Blocks.{Place, Block, stored_rows, lies_within, is_sound}
+use Rattle.scan_meaning.specs.Blocks.{Block, stored_rows, lies_within, is_sound}
 use Rattle.scan_meaning.specs.Wanted.{bounds_by, are_apart, is_wanted}
 use Rattle.scan_meaning.specs.Laws.{BlocksAreExact, RangesAreExact, UnwantedAreExcluded}
 
@@ -131,7 +131,7 @@ field_sound (c ∷ cs) e rows =
 
 pub ranges_exact : RangesAreExact
 unfolding is_sound
-ranges_exact p rows = field_sound p.field p.entry rows
+ranges_exact field entry rows = field_sound field entry rows
 
 -- exclusion
 
@@ -157,6 +157,11 @@ not_false : (b : Bool) → not b ≡ false → b ≡ true
 not_false true h = refl
 not_false false h = absurd (cc)
 
+-- the test of an entry is the exclusion of its block
+pub apart_exact : (e : Entry) (b : Bounds) → (are_apart e b ≡ true) ↔ IsExcluded e b
+apart_exact e All = (λ h. absurd (cc), λ x. absurd (x.bound refl))
+apart_exact e (Between low high) = (λ h. apart_is e low high (lt_is (int_min e.greatest high) (int_max e.least low) h), λ x. apart_was e low high x)
+
 bounds_exact : (e : Entry) (b : Bounds) → (not (are_apart e b) ≡ false) ↔ IsExcluded e b
 bounds_exact e All = (λ h. absurd (cc), λ x. absurd (x.bound refl))
 bounds_exact e (Between low high) = (
@@ -166,4 +171,4 @@ bounds_exact e (Between low high) = (
 
 pub unwanted_excluded : UnwantedAreExcluded
 unfolding is_wanted
-unwanted_excluded q p = bounds_exact p.entry (bounds_by p.field q.filter)
+unwanted_excluded q field entry = bounds_exact entry (bounds_by field q.filter)

@@ -1,4 +1,4 @@
-mod Exact
+pub mod Exact
 pub mod Batches
 pub mod Named
 mod Some

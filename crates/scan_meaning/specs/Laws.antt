@@ -7,7 +7,8 @@ use Rattle.block_meaning.specs.Blocks.{IsBlock, IsDamaged}
 use Rattle.file_meaning.specs.Reading.{AreBytes}
 use Rattle.tree_meaning.specs.Tree.{Query}
 use Rattle.range_meaning.specs.Excluded.{IsExcluded, IsSoundEntry}
-use Rattle.scan_meaning.specs.Blocks.{Place, Block, stored_rows, is_sound}
+use Rattle.file_meaning.specs.Files.{Entry}
+use Rattle.scan_meaning.specs.Blocks.{Block, stored_rows, is_sound}
 use Rattle.scan_meaning.specs.Wanted.{bounds_by, is_wanted}
 use Rattle.scan_meaning.specs.Batches.{first_bad, Counts, IsFirstBad, front}
 use Rattle.scan_meaning.specs.Verdicts.{Verdict, Finds}
@@ -20,11 +21,11 @@ pub record BlocksAreExact : Type 0 where
 
 -- The test of a block's range is the soundness of its entry.
 abbrev pub RangesAreExact : Type 0
-RangesAreExact = (p : Place) (rows : List Val) → (is_sound p rows ≡ true) ↔ IsSoundEntry p.field p.entry rows
+RangesAreExact = (field : List ℕ) (entry : Entry) (rows : List Val) → (is_sound field entry rows ≡ true) ↔ IsSoundEntry field entry rows
 
 -- A block isn't wanted exactly where the bounds of the WHERE exclude it.
 abbrev pub UnwantedAreExcluded : Type 0
-UnwantedAreExcluded = (q : Query) (p : Place) → (is_wanted q p ≡ false) ↔ IsExcluded p.entry (bounds_by p.field q.filter)
+UnwantedAreExcluded = (q : Query) (field : List ℕ) (entry : Entry) → (is_wanted q field entry ≡ false) ↔ IsExcluded entry (bounds_by field q.filter)
 
 -- A query, names and files give rise to at most one verdict.
 abbrev pub OneVerdict : Type 0

@@ -33,7 +33,7 @@ abbrev pub AreOpened : Contents → List (List ℕ) → List Opened → Type 0
 AreOpened files names os = AreNamed files names (map (λ o. opened o) os)
 
 abbrev pub blocks_of : ℕ → Opened → List Block
-blocks_of file o = map (block_of o.bytes) (places_from file o.field 0 o.entries)
+blocks_of file o = map (block_of o.bytes o.field) (places_from file 0 o.entries)
 
 -- the blocks of the files, in order, where the first has this number
 abbrev pub blocks_from : ℕ → List Named → List Block

@@ -24,10 +24,10 @@ refusal i (opened o ∷ fs) = refusal (suc i) fs
 
 -- the blocks that the WHERE doesn't exclude, and how many it does
 abbrev pub wanted : Query → List Block → List Block
-wanted q bs = filter (λ b. is_wanted q b.place) bs
+wanted q bs = filter (λ b. is_wanted q b.field b.place.entry) bs
 
 abbrev pub skipped : Query → List Block → ℕ
-skipped q bs = count_by (λ b. not (is_wanted q b.place)) bs
+skipped q bs = count_by (λ b. not (is_wanted q b.field b.place.entry)) bs
 
 abbrev pub verdict_of : Query → List Named → Verdict
 verdict_of q fs = unwrap_or (refusal 0 fs) (scan (wanted q (blocks_from 0 fs)) (skipped q (blocks_from 0 fs)))

@@ -6,7 +6,6 @@ use Rattle.file_meaning.specs.Files.{Entry}
 use Rattle.range_meaning.specs.declared.Bounds.{Bounds}
 use Rattle.range_meaning.specs.declared.Bounds.TheVariants.{All, Between}
 use Rattle.range_meaning.specs.Binding.{bounds}
-use Rattle.scan_meaning.specs.Blocks.{Place}
 
 -- the bounds that a query's WHERE leaves of a file's indexed field
 abbrev pub bounds_by : List ℕ → Option Ex → Bounds
@@ -18,6 +17,6 @@ abbrev pub are_apart : Entry → Bounds → Bool
 are_apart e All = false
 are_apart e (Between low high) = int_lt (int_min e.greatest high) (int_max e.least low)
 
--- the WHERE doesn't exclude the block
-unfoldable pub is_wanted : Query → Place → Bool
-is_wanted q p = not (are_apart p.entry (bounds_by p.field q.filter))
+-- the WHERE doesn't exclude a block of this entry in a file with this indexed field
+unfoldable pub is_wanted : Query → List ℕ → Entry → Bool
+is_wanted q field entry = not (are_apart entry (bounds_by field q.filter))
