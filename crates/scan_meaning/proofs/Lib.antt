@@ -1,0 +1,4 @@
+pub mod Exact
+pub mod Batches
+pub mod Named
+mod Some
