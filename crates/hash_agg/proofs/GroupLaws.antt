@@ -1,10 +1,10 @@
 -- Groups join as the lists for which they stand.
-use Rattle.std.proofs.Common.{◌≡◌, List, [], ◌∷◌, ◌++◌, map, Some, Bool, true, false, cond, refl, sym, ap, ◌∙◌, append-nil, arith}
+use Rattle.std.proofs.Common.{◌≡◌, List, [], ◌∷◌, ◌++◌, map, Some, refl, sym, ap, ◌∙◌, append-nil, arith}
 use Rattle.std.specs.List.{filter}
 use Rattle.std.proofs.lemmas.List.{map-append}
 use Rattle.std.proofs.lemmas.List.Elements.{filter-append}
 use Rattle.std.specs.List.Sorted.{IsPermutation}
-use Rattle.std.proofs.lemmas.List.Sorted.{IsPermutation-refl, IsPermutation-trans, IsPermutation-cons, IsPermutation-map, length_permutation}
+use Rattle.std.proofs.lemmas.List.Sorted.{IsPermutation-map, length_permutation}
 use Rattle.value_meaning.specs.Val.{Val}
 use Rattle.tree_meaning.specs.declared.AggName.{AggName}
 use Rattle.hash_agg.specs.Groups.{Keyed, first, rest, has_keys, group_of, partials_of, aggregates_of, values_of, group_partials, joined_all, merged_at, Entry, partials_at, GroupsStandFor}

@@ -2,6 +2,7 @@ pub mod GroupLaws
 pub mod Steps
 pub mod Comparing
 pub mod Places
+pub mod Covering
 pub mod Rows
 pub mod Merging
 pub mod Standing

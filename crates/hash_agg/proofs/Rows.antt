@@ -19,6 +19,9 @@ use Rattle.hash_agg.specs.Items.{alone_all, EachHasRoom}
 use Rattle.hash_agg.specs.Entries.{entry_of, names_of, with_row, with_group}
 use Rattle.hash_agg.specs.Adds.{only_at, Joins}
 use Rattle.hash_agg.specs.Held.{Held}
+use Rattle.hash_agg.specs.declared.index.Index.{Index}
+use Rattle.hash_agg.specs.Covers.{Covers}
+use Rattle.hash_agg.proofs.Covering.{covers_set}
 use Rattle.hash_agg.proofs.Places.{entry_at, found_at, joined_there, joined_new, apart_replaced, apart_pushed}
 
 abbrev pub HaveNames : List AggName → List Group → Type 0
@@ -59,6 +62,9 @@ module _ (names : List AggName) (all : List Group) (at : ℕ) (g : Group) (ks : 
         ap (partials_at ls) entries_set
         ∙ joined_there names (map entry_of all) at (entry_of g) ks (entry_of g).1 (alone_all names items) apart long (place (entry_of g)) (ap (λ (e : Entry). e.1) (entry_at all at g (entry_of g) below is)) ls
 
+    pub there_covers : (x : Index) → Covers x (map entry_of all) → Covers x (map entry_of (set all at new))
+    there_covers x c = subst (Covers x) (sym entries_set) (covers_set x (map entry_of all) at ks (joined_all names (entry_of g).1 (alone_all names items)) long place c)
+
 -- a group's partials and others of its key list
 module _ (names : List AggName) (all : List Group) (at : ℕ) (g : Group) (ks : List Val) (below : at < length all) (is : g ≡ get_or all at g) (apart : AreApart (map entry_of all)) (named : HaveNames names all) (place : (e : Entry) → (get_or (map entry_of all) at e).0 ≡ ks) (new h : Group) (keeps : names_of new ≡ names_of g) (entry : entry_of new ≡ with_group g h) where
   joint : entry_of new ≡ (ks, joined_all names (entry_of g).1 (entry_of h).1)
@@ -80,6 +86,9 @@ module _ (names : List AggName) (all : List Group) (at : ℕ) (g : Group) (ks : 
   joint_joins ls =
       ap (partials_at ls) joint_set
       ∙ joined_there names (map entry_of all) at (entry_of g) ks (entry_of g).1 (entry_of h).1 apart long_there (place (entry_of g)) (ap (λ (e : Entry). e.1) (entry_at all at g (entry_of g) below is)) ls
+
+  pub joint_covers : (x : Index) → Covers x (map entry_of all) → Covers x (map entry_of (set all at new))
+  joint_covers x c = subst (Covers x) (sym joint_set) (covers_set x (map entry_of all) at ks (joined_all names (entry_of g).1 (entry_of h).1) long_there place c)
 
 module _ (names : List AggName) (all : List Group) (ks : List Val) (states : List Partial) (new : Group) (none : partials_at ks (map entry_of all) ≡ None) (entry : entry_of new ≡ (ks, states)) where
   entries_pushed : map entry_of (all ++ new ∷ []) ≡ map entry_of all ++ (ks, states) ∷ []

@@ -5,3 +5,4 @@ pub mod Held
 pub mod Adds
 pub mod Laws
 pub mod Finished
+pub mod Covers

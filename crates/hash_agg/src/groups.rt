@@ -4,6 +4,7 @@ ghost use Rattle.snel_values.specs.View.{views};
 ghost use Rattle.agg_meaning.specs.Partials.{Partial};
 ghost use Rattle.hash_agg.specs.Groups.{Entry, partials_at, merged_at, AreApart};
 ghost use Rattle.hash_agg.specs.Items.{alone_all, EachHasRoom, EachTwoHaveRoom};
+ghost use Rattle.hash_agg.specs.Covers.{Covers};
 ghost use Rattle.hash_agg.specs.Adds.{TwoHaveRoom};
 ghost use Rattle.hash_agg.specs.Finished.{row_of};
 ghost use Rattle.hash_agg.specs.Entries.{entry_of, names_of};
@@ -13,10 +14,11 @@ ghost use Rattle.hash_agg.specs.Adds.{Joins, only_at, count_new, one_if_none};
 use crate::fault::GroupFault;
 use crate::finish::{GroupRows, finished};
 use crate::group::Group;
-use crate::keys::same_keys;
+use crate::index::Index;
 use agg_laws::Seen;
 use snel_values::{OutOfMemory, Value};
 use std::alloc::Global;
+use std::hash::DefaultHasher;
 use std::marker::Model;
 use tree_meaning::AggName;
 
@@ -27,12 +29,14 @@ pub struct Groups {
     aggs: Vec<AggName>,
     limit: u32,
     all: Vec<Group>,
+    index: Index,
 }
 
 impl Model for Groups {
     ghost use Rattle.std.specs.Prelude.{◌≡◌, ◌≤◌, length, map, All};
     ghost use Rattle.hash_agg.specs.Groups.{AreApart};
     ghost use Rattle.hash_agg.specs.Entries.{entry_of, names_of};
+    ghost use Rattle.hash_agg.specs.Covers.{Covers};
     ghost use Rattle.hash_agg.specs.Held.{Held};
     ghost use Rattle.value_meaning.specs.Code.{coded_val};
     ghost use Rattle.std.specs.Coded.{codes};
@@ -43,73 +47,73 @@ impl Model for Groups {
 
     ghost view = { λ g. record { names = g.aggs.items; limit = g.limit; entries = map entry_of g.all.items } };
 
-    ghost invariant = { λ g. AreApart (map entry_of g.all.items) × All (λ x. names_of x ≡ g.aggs.items) g.all.items × (length g.all.items ≤ g.limit) };
-}
-
-/// The place of the group with that key list.
-fn find(all: &[Group], keys: &[Value]) -> Option<usize>
-    ensures { MatchOption result (partials_at (views keys.now) (map entry_of all.now) ≡ None) (λ i. (i < length all.now) × ((e : Entry) → (slice_index_or (map entry_of all.now) i e).0 ≡ views keys.now)) }
-{
-    for i in 0..all.len() {
-        if same_keys(keys, all[i].keys.as_slice()) {
-            return Some(i);
-        }
-    }
-    None
+    ghost invariant = { λ g. AreApart (map entry_of g.all.items) × All (λ x. names_of x ≡ g.aggs.items) g.all.items × (length g.all.items ≤ g.limit) × Covers g.index (map entry_of g.all.items) };
 }
 
 /// 1 where the group's key list isn't there, else 0.
-fn one_if_new(all: &[Group], group: &Group) -> usize
-    requires { AreApart (map entry_of all.now) }
+fn one_if_new(index: &Index, all: &[Group], group: &Group) -> usize
+    requires apart { AreApart (map entry_of all.now) }
+    requires covers { Covers index.now (map entry_of all.now) }
     ensures { result ≡ one_if_none (partials_at group.now.keys (map entry_of all.now)) }
 {
-    match find(all, group.keys.as_slice()) {
+    match index.find(all, group.keys.as_slice()) {
         Some(_) => 0,
         None => 1,
     }
 }
 
 /// How many of the groups have a key list that isn't there.
-fn new_in(all: &[Group], more: &[Group]) -> usize
-    requires { AreApart (map entry_of all.now) }
+fn new_in(index: &Index, all: &[Group], more: &[Group]) -> usize
+    requires apart { AreApart (map entry_of all.now) }
+    requires covers { Covers index.now (map entry_of all.now) }
     ensures { result ≡ count_new (map entry_of all.now) (map entry_of more.now) }
 {
     let mut count: usize = 0;
     for i in 0..more.len() {
-        count += one_if_new(all, &more[i]);
+        count += one_if_new(index, all, &more[i]);
     }
     count
 }
 
 /// Joins a group to that of its key list, or adds it.
-fn join_one(all: &mut Vec<Group>, group: Group)
+fn join_one(alloc: Global, index: &mut Index, all: &mut Vec<Group>, group: Group)
+    requires covers { Covers index.old (map entry_of all.old.items) }
     requires free { vec_len all.old < vec_capacity all.old }
     requires apart { AreApart (map entry_of all.old.items) }
     requires named { All (λ x. names_of x ≡ names_of group) all.old.items }
     requires room { (ss : List Partial) → partials_at group.keys (map entry_of all.old.items) ≡ Some ss → EachTwoHaveRoom (names_of group) ss (entry_of group).1 }
+    ensures covers { Covers index.new (map entry_of all.new.items) }
     ensures capacity { vec_capacity all.old ≤ vec_capacity all.new }
     ensures len { vec_len all.new ≡ vec_len all.old + one_if_none (partials_at group.keys (map entry_of all.old.items)) }
     ensures apart { AreApart (map entry_of all.new.items) }
     ensures named { All (λ x. names_of x ≡ names_of group) all.new.items }
     ensures joins { (ls : List Val) → partials_at ls (map entry_of all.new.items) ≡ merged_at (names_of group) (partials_at ls (map entry_of all.old.items)) (only_at group.keys (entry_of group).1 ls) }
 {
-    match find(all.as_slice(), group.keys.as_slice()) {
+    match index.find(all.as_slice(), group.keys.as_slice()) {
         Some(at) => all[at].merge(&group),
         None => match all.push(group) {
-            Ok(()) => {}
+            Ok(()) => index.cover(alloc, all.as_slice()),
             Err(_) => unreachable!(),
         },
     }
 }
 
 /// Joins groups of the same aggregates.
-fn join_all(aggs: &[AggName], all: &mut Vec<Group>, mut more: Vec<Group>)
+fn join_all(
+    alloc: Global,
+    aggs: &[AggName],
+    index: &mut Index,
+    all: &mut Vec<Group>,
+    mut more: Vec<Group>,
+)
+    requires covers { Covers index.old (map entry_of all.old.items) }
     requires free { vec_len all.old + vec_len more ≤ vec_capacity all.old }
     requires apart { AreApart (map entry_of all.old.items) }
     requires named { All (λ x. names_of x ≡ aggs.now) all.old.items }
     requires more_apart { AreApart (map entry_of more.items) }
     requires more_named { All (λ x. names_of x ≡ aggs.now) more.items }
     requires room { TwoHaveRoom aggs.now (map entry_of all.old.items) (map entry_of more.items) }
+    ensures covers { Covers index.new (map entry_of all.new.items) }
     ensures len { vec_len all.new ≡ vec_len all.old + count_new (map entry_of all.old.items) (map entry_of more.items) }
     ensures apart { AreApart (map entry_of all.new.items) }
     ensures named { All (λ x. names_of x ≡ aggs.now) all.new.items }
@@ -117,13 +121,18 @@ fn join_all(aggs: &[AggName], all: &mut Vec<Group>, mut more: Vec<Group>)
 {
     let _ = aggs;
     while let Some(group) = more.pop() {
-        join_one(all, group);
+        join_one(alloc, index, all, group);
     }
 }
 
 impl Groups {
     /// No groups.
-    pub fn new(alloc: Global, aggs: &[AggName], limit: u32) -> Result<Groups, OutOfMemory>
+    pub fn new(
+        alloc: Global,
+        aggs: &[AggName],
+        limit: u32,
+        seed: DefaultHasher,
+    ) -> Result<Groups, OutOfMemory>
         ensures { IfOk result (λ g. g ≡ record { names = aggs.now; limit = limit; entries = [] }) }
     {
         let mut copied = Vec::new(alloc);
@@ -133,6 +142,7 @@ impl Groups {
             aggs: copied,
             limit,
             all: Vec::new(alloc),
+            index: Index::new(alloc, seed),
         })
     }
 
@@ -144,7 +154,7 @@ impl Groups {
         ensures over { (result ≡ Err Over) ↔ (partials_at (views keys.now) self.old.entries ≡ None) × (self.old.limit ≤ length self.old.entries) }
         ensures err { OnErr result (self.new ≡ self.old) }
     {
-        match find(self.all.as_slice(), keys) {
+        match self.index.find(self.all.as_slice(), keys) {
             Some(at) => {
                 self.all[at].add(items);
                 Ok(())
@@ -157,6 +167,7 @@ impl Groups {
                 let Ok(()) = self.all.push(group) else {
                     return Err(GroupFault::OutOfMemory);
                 };
+                self.index.cover(self.alloc, self.all.as_slice());
                 Ok(())
             }
         }
@@ -170,14 +181,20 @@ impl Groups {
         ensures over { (result ≡ Err Over) ↔ (self.old.limit < length self.old.entries + count_new self.old.entries other.entries) }
         ensures err { OnErr result (self.new ≡ self.old) }
     {
-        let fresh = new_in(self.all.as_slice(), other.all.as_slice());
+        let fresh = new_in(&self.index, self.all.as_slice(), other.all.as_slice());
         if fresh > self.limit as usize - self.all.len() {
             return Err(GroupFault::Over);
         }
         let Ok(()) = self.all.reserve(other.all.len()) else {
             return Err(GroupFault::OutOfMemory);
         };
-        join_all(self.aggs.as_slice(), &mut self.all, other.all);
+        join_all(
+            self.alloc,
+            self.aggs.as_slice(),
+            &mut self.index,
+            &mut self.all,
+            other.all,
+        );
         Ok(())
     }
 

@@ -1,4 +1,3 @@
-use Rattle.std.proofs.Common.{map}
 use Rattle.hash_agg.proofs.Finishing.{empty_values}
 use Rattle.hash_agg.proofs.finish.empty_row.Goals as goal
 

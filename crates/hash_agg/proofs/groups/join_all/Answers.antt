@@ -62,6 +62,7 @@ loop-group-preserved c =
     let split = ap (count_new there) entries ∙ count_last there (map entry_of rest) (entry_of g) in
     let same = ap one_if_none last.0 in
     record {
+      covers = c.join_one.ensures.covers;
       free = omega arith;
       apart = c.join_one.ensures.apart;
       named = subst (λ ns. HaveNames ns c.join_one.new.all.items) g_named c.join_one.ensures.named;

@@ -3,6 +3,7 @@ use Rattle.std.specs.Prelude.{vec_len, vec_capacity}
 use Rattle.value_meaning.specs.Val.{Val}
 use Rattle.hash_agg.specs.Groups.{partials_at, AreApart}
 use Rattle.hash_agg.specs.Entries.{entry_of}
+use Rattle.hash_agg.specs.Covers.{Covers}
 use Rattle.hash_agg.specs.Adds.{count_new}
 use Rattle.hash_agg.proofs.Rows.{HaveNames}
 use Rattle.hash_agg.proofs.Merging.{Progress}
@@ -10,6 +11,7 @@ use Rattle.hash_agg.proofs.groups.join_all.Given as goal
 
 abbrev pub invariant-loop-group : goal.invariant-loop-group
 invariant-loop-group l = record {
+  covers : Covers l.index (map entry_of l.all.items);
   free : vec_len l.all + vec_len l.more ≤ vec_capacity l.all;
   apart : AreApart (map entry_of l.all.items);
   named : HaveNames l.aggs l.all.items;

@@ -5,7 +5,7 @@ use Rattle.hash_agg.specs.declared.group.Group.{Group}
 use Rattle.hash_agg.specs.Items.{EachTwoHaveRoom}
 use Rattle.hash_agg.specs.Entries.{entry_of, names_of}
 use Rattle.hash_agg.specs.Adds.{one_if_none}
-use Rattle.hash_agg.proofs.Rows.{here_named, here_found, joint_apart, joint_joins, new_apart, new_joins}
+use Rattle.hash_agg.proofs.Rows.{here_named, here_found, joint_apart, joint_joins, joint_covers, new_apart, new_joins}
 use Rattle.hash_agg.proofs.groups.join_one.Goals as goal
 
 pub merge-requires-clause-room : goal.merge-requires-clause-room
@@ -68,6 +68,21 @@ returns-in-Some-clause-joins c =
     let apart = c.requires.apart in
     let named = c.requires.named in
     joint_joins names all at g ks below is apart named place c.merge.new.self c.args.group c.merge.ensures.names c.merge.ensures.entry
+
+pub returns-in-Some-clause-covers : goal.returns-in-Some-clause-covers
+returns-in-Some-clause-covers c =
+    let names = names_of c.args.group in
+    let all = c.args.all.now.items in
+    let at = c.in-Some.at in
+    let g = c.index_mut.result.now in
+    let ks = c.args.group.keys in
+    let v = c.as_slice.ensures.value in
+    let place = λ (e : Entry). subst (λ (l : List Group). (e : Entry) → (get_or (map entry_of l) at e).0 ≡ views c.as_slice-2.result.now) v c.in-Some.ensures.1 e ∙ c.as_slice-2.ensures in
+    let below : at < length all = let k = ap length v in omega (arith, c.in-Some.ensures.0) in
+    let is = c.index_mut.ensures.value in
+    let apart = c.requires.apart in
+    let named = c.requires.named in
+    joint_covers names all at g ks below is apart named place c.merge.new.self c.args.group c.merge.ensures.names c.merge.ensures.entry c.args.index.now c.requires.covers
 
 pub returns-in-Ok-clause-apart : goal.returns-in-Ok-clause-apart
 returns-in-Ok-clause-apart c =

@@ -1,4 +1,4 @@
-use Rattle.std.proofs.Common.{◌∙◌, ap, map, arith}
+use Rattle.std.proofs.Common.{◌∙◌, ap}
 use Rattle.hash_agg.specs.Groups.{Entry}
 use Rattle.hash_agg.proofs.Rows.{first_states, first_room}
 use Rattle.hash_agg.proofs.group.Group.of.Goals as goal

@@ -1,4 +1,4 @@
-use Rattle.std.proofs.Common.{◌≡◌, ◌∙◌, ◌<◌, ◌≤◌, List, [], ◌∷◌, ◌++◌, None, sym, ap, subst, refl, arith, map, length, get_or}
+use Rattle.std.proofs.Common.{rules, ◌≡◌, ◌∙◌, ◌<◌, ◌≤◌, List, [], ◌∷◌, ◌++◌, None, sym, ap, subst, refl, arith, map, length, get_or}
 use Rattle.std.proofs.lemmas.List.{length-set, length-append}
 use Rattle.snel_values.specs.View.{views}
 use Rattle.hash_agg.specs.Groups.{Entry, partials_at, AreApart}
@@ -9,7 +9,7 @@ use Rattle.hash_agg.specs.Entries.{entry_of}
 use Rattle.tree_meaning.specs.declared.AggName.{AggName}
 use Rattle.hash_agg.specs.Held.{Held}
 use Rattle.hash_agg.specs.Adds.{only_at}
-use Rattle.hash_agg.proofs.Rows.{HaveNames, here_room, here_found, there_apart, there_named, there_joins, new_apart, new_joins, named_pushed, moved}
+use Rattle.hash_agg.proofs.Rows.{HaveNames, here_room, here_found, there_apart, there_named, there_joins, there_covers, new_apart, new_joins, named_pushed, moved}
 use Rattle.hash_agg.proofs.groups.Groups.add.Goals as goal
 
 pub add-requires-clause-room : goal.add-requires-clause-room
@@ -42,7 +42,7 @@ invariant_of-self c =
     let named = c.self.invariant.1 in
     let few = c.self.invariant.2 in
     let long = length-set all at c.add.new.self in
-    (there_apart names all at g ks below is apart named place c.add.new.self c.args.items.now c.add.ensures.names c.add.ensures.entry, there_named names all at g ks below is apart named place c.add.new.self c.args.items.now c.add.ensures.names c.add.ensures.entry, omega arith)
+    (there_apart names all at g ks below is apart named place c.add.new.self c.args.items.now c.add.ensures.names c.add.ensures.entry, there_named names all at g ks below is apart named place c.add.new.self c.args.items.now c.add.ensures.names c.add.ensures.entry, omega arith, there_covers names all at g ks below is apart named place c.add.new.self c.args.items.now c.add.ensures.names c.add.ensures.entry c.self.inside.index c.self.invariant.3)
 
 pub returns-in-Some-clause-ok : goal.returns-in-Some-clause-ok
 returns-in-Some-clause-ok c =
@@ -89,7 +89,9 @@ invariant_of-self-in-None c =
     let pushed = c.in-Ok.ensures.items in
     let long = length-append all (group ∷ []) in
     let few : length (all ++ group ∷ []) ≤ c.self.inside.limit = let n = c.len.ensures in let f = c.if-len-self.false in omega arith in
-    subst (λ (l : List Group). AreApart (map entry_of l) × HaveNames names l × length l ≤ c.self.inside.limit) (sym pushed) (new_apart names all ks states group none entry c.self.invariant.0, named_pushed names all group c.self.invariant.1 named, few)
+    let three : AreApart (map entry_of c.push.new.self.items) × HaveNames names c.push.new.self.items × length c.push.new.self.items ≤ c.self.inside.limit =
+    subst (λ (l : List Group). AreApart (map entry_of l) × HaveNames names l × length l ≤ c.self.inside.limit) (sym pushed) (new_apart names all ks states group none entry c.self.invariant.0, named_pushed names all group c.self.invariant.1 named, few) in
+    (three.0, three.1, three.2, search rules)
 
 pub returns-in-Ok-clause-ok : goal.returns-in-Ok-clause-ok
 returns-in-Ok-clause-ok c =
