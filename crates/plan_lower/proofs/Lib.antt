@@ -9,6 +9,8 @@ pub mod Operations
 pub mod Choices
 pub mod Outputs
 pub mod PlainQueries
-pub mod PlainJobs
+pub mod AggregateForms
+pub mod EndRegisters
+pub mod EndJobs
 pub mod Lines
 pub mod HeldConstants

@@ -1,4 +1,4 @@
--- The queries that are lowered.
+-- The queries that make an output of each row that passes, and nothing else.
 use Rattle.std.specs.Prelude.{ℕ, Bool, true, not, ◌&&◌, ◌==◌, List, length, Option, None, Some, is_none}
 use Rattle.std.specs.List.{list_all}
 use Rattle.tree_meaning.specs.Tree.{Ex, Outs, star, named, Query}

@@ -239,7 +239,7 @@ fn emit_call(
 
 /// Expressions, one behind the other; the register of each.
 #[cycle(emit)]
-fn emit_list(
+pub(crate) fn emit_list(
     alloc: Global,
     builder: &mut Builder,
     list: &Exprs,

@@ -1,4 +1,4 @@
-//! Which queries are lowered.
+//! Which queries make an output of each row that passes, and nothing else.
 ghost use Rattle.std.specs.Prelude.{◌≡◌};
 ghost use Rattle.std.specs.List.{list_all};
 ghost use Rattle.query_tree.specs.Queries.{outs_view, query_view};
@@ -7,8 +7,8 @@ ghost use Rattle.plan_lower.specs.Forms as forms;
 use query_tree::{Exprs, Operand, OutItems, Outputs, Query};
 use query_walk::{Asked, has_part};
 
-/// Whether [`lower`](crate::lower) takes the query: no aggregate stands in its outputs and in WHERE, there is no GROUP BY,
-/// HAVING, ORDER BY and LIMIT, and OFFSET is 0.
+/// Whether the query makes an output of each row that passes, in any order, and nothing else: no aggregate stands in its outputs
+/// and in WHERE, there is no GROUP BY, HAVING, ORDER BY and LIMIT, and OFFSET is 0.
 #[tactic(auto, unfolding(crate::specs::Forms::is_lowered))]
 pub fn is_lowered(query: &Query) -> bool
     ensures { result ≡ forms.is_lowered (query_view query.now) }

@@ -3,6 +3,7 @@ ghost use Rattle.std.specs.Option.{option_map};
 ghost use Rattle.tree_meaning.specs.WellFormed.{IsWellFormed};
 ghost use Rattle.check_meaning.specs.Aggregates as aggs;
 ghost use Rattle.check_meaning.specs.Names as named;
+ghost use Rattle.check_meaning.specs.Places as sites;
 ghost use Rattle.check_meaning.specs.Tests as tests;
 ghost use Rattle.check_meaning.specs.Verdict as verdict;
 ghost use Rattle.query_tree.specs.Queries.{outs_view, query_view};
@@ -17,8 +18,9 @@ use crate::firsts::{
     passed_limit,
 };
 use crate::names::{Names, names_of};
+use crate::order::order_ex;
 use crate::places::Rule;
-use query_tree::{Exprs, Outputs, Query};
+use query_tree::{Exprs, Operand, Outputs, Query};
 use std::alloc::Global;
 use std::marker::Model;
 
@@ -73,6 +75,13 @@ impl Checked {
         ensures { result.now ≡ aggs.aggregates self.now }
     {
         &self.findings.aggregates
+    }
+
+    /// What an expression stands for as an order key: the output of that number, counted from 1, or of that name, or itself.
+    pub fn order_ex<'a>(&'a self, key: &'a Operand) -> &'a Operand
+        ensures { result.now ≡ sites.order_ex self.now.outs key.now }
+    {
+        order_ex(&self.query.outputs, &self.findings.names, key)
     }
 
     /// Tells what holds of every accepted query: it is well formed and has no fault.

@@ -5,7 +5,7 @@ use Rattle.plan_lower.specs.Emitting.{Emits}
 use Rattle.plan_lower.proofs.Items.{all_at}
 use Rattle.plan_lower.proofs.Outputs.{named_more, outputs_more}
 use Rattle.plan_lower.proofs.Showing.{stays_begun}
-use Rattle.plan_lower.proofs.lowering.emit_items.Goals as goal
+use Rattle.plan_lower.proofs.named_outputs.emit_items.Goals as goal
 
 pub emit_expr-requires-clause-begun : goal.emit_expr-requires-clause-begun
 emit_expr-requires-clause-begun c = stays_begun c.args.builder.now c.loop-at.builder c.args.mask c.requires.begun c.loop-at.invariant.1.extends
