@@ -2,7 +2,10 @@
 //! `pack(alloc, "logs.snel", &settings, &mut files, &mut input)?`.
 #![tactic(auto)]
 
+mod input;
 mod packing;
+mod reading;
+mod splitting;
 mod sums;
 
 pub use json_rows::PackSettings;
