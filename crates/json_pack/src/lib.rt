@@ -3,6 +3,7 @@
 #![tactic(auto)]
 
 mod input;
+mod packed;
 mod packing;
 mod reading;
 mod splitting;

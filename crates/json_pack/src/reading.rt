@@ -11,9 +11,9 @@ ghost use Rattle.json_rows.specs.LineViews.{settings_view, counted, reason_of as
 ghost use Rattle.json_pack.specs.Reading.{HasRead, AddsLine, AddsRow, refusal_in};
 
 use crate::splitting::first_line;
-use json_rows::{LineFault, LineRead, PackSettings, read_line};
-use ion_write::weight;
 use file_meaning::MOST_BLOCKS;
+use ion_write::weight;
+use json_rows::{LineFault, LineRead, PackSettings, read_line};
 use pack_blocks::Cutter;
 use pack_meaning::LineWhy;
 use snel_values::{OutOfMemory, Value};

@@ -17,7 +17,7 @@ returns-in-Err-clause-refused c =
     let s = settings_view c.args.settings.now in
     let f = subst (λ b. IsFirstLine b n m) c.behind-rest.ensures c.first_line-next.ensures in
     let stops = subst (λ b. IfSome (why_of c.in-Err.fault) (λ why. (before : List (List ℕ)) (whole : List ℕ) → content whole ≡ take m b → HasRead s before l.read
-        → reason_of s (packed s before) (line_of s (content whole)) ≡ Some why)) c.behind-rest.ensures c.in-Err.ensures.err in
+    → reason_of s (packed s before) (line_of s (content whole)) ≡ Some why)) c.behind-rest.ensures c.in-Err.ensures.err in
     fault_stops s c.args.bytes.now l.at l.number n m l.read l.invariant f (omega (arith, c.requires.few)) (why_of c.in-Err.fault) _ stops c.at_line.ensures
 
 pub loop-at-preserved : goal.loop-at-preserved
