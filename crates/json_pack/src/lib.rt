@@ -2,7 +2,11 @@
 //! `pack(alloc, "logs.snel", &settings, &mut files, &mut input)?`.
 #![tactic(auto)]
 
+mod input;
+mod packed;
 mod packing;
+mod reading;
+mod splitting;
 mod sums;
 
 pub use json_rows::PackSettings;
