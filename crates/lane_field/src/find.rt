@@ -51,7 +51,7 @@ fn field_of<'b>(bytes: &'b [u8], label: u32) -> Option<Cell<'b>>
 /// The cell of the pair with that label in the struct that the lane shows. None where the lane isn't in `m`, shows no struct
 /// or the struct has no such pair. The lane is below 16.
 #[inline(always)]
-fn field_at<'b>(a: &Lanes<'b>, label: u32, lane: u32, m: LaneMask) -> Option<Cell<'b>>
+pub(crate) fn field_at<'b>(a: &Lanes<'b>, label: u32, lane: u32, m: LaneMask) -> Option<Cell<'b>>
     requires within { lane < 16 }
     requires legal { AreUnderOne m.0 a.now }
     ensures { (n : List ℕ) → StepAt (name n) (IsNamed label n) m.0 a.now lane result }

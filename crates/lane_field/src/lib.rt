@@ -5,6 +5,7 @@
 #![tactic(auto)]
 
 mod cells;
+mod field;
 mod find;
 mod item;
 mod kinds;
@@ -16,6 +17,7 @@ mod tests;
 mod walks;
 
 pub use cells::CellLanes;
+pub use field::field16;
 pub use find::find16;
 pub use item::item16;
 pub use kinds::{KindMasks, kinds16};

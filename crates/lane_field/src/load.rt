@@ -54,7 +54,7 @@ fn look_of<'b>(cell: &Cell<'b>, table: &SymTab<'b>) -> Look<'b>
 
 /// What a lane shows that the cell is loaded into, MISSING where there is none.
 #[inline(always)]
-fn look_in<'b>(cell: Option<Cell<'b>>, table: &SymTab<'b>) -> Look<'b>
+pub(crate) fn look_in<'b>(cell: Option<Cell<'b>>, table: &SymTab<'b>) -> Look<'b>
     requires { IfSome cell (IsCellOf table.now) }
     ensures value { value_under table.now (seen result) ≡ denoted table.now cell.entry }
     ensures legal { IsLegal table.now (seen result) }
@@ -67,7 +67,7 @@ fn look_in<'b>(cell: Option<Cell<'b>>, table: &SymTab<'b>) -> Look<'b>
 
 /// Lanes that are all MISSING.
 #[inline(always)]
-fn all_missing<'b>() -> Lanes<'b>
+pub(crate) fn all_missing<'b>() -> Lanes<'b>
     ensures { (i : ℕ) → shown result i ≡ to.Missing }
 {
     Lanes {
@@ -106,7 +106,7 @@ fn put_span<'b>(spans: &mut SpanLanes<'b>, lane: u32, bytes: &'b [u8])
 
 /// Lets a lane that is MISSING show this. The lane is below 16.
 #[inline(always)]
-fn put<'b>(lanes: &mut Lanes<'b>, lane: u32, look: Look<'b>)
+pub(crate) fn put<'b>(lanes: &mut Lanes<'b>, lane: u32, look: Look<'b>)
     requires within { lane < 16 }
     requires missing { shown lanes.old lane ≡ to.Missing }
     ensures { (i : ℕ) → i < 16 → shown lanes.new i

@@ -11,7 +11,7 @@ ghost use Rattle.lane_ssa.specs.Making.{IsReadable};
 
 use ion_symtab::SymTab;
 use lane_base::{LaneMask, Lanes};
-use lane_field::{find16, item16, load16};
+use lane_field::{item16, load16};
 
 /// The value of a name in the structs of the lanes of `m`. `symbol` is the name's number in the table.
 pub(crate) fn field16<'b>(
@@ -26,7 +26,7 @@ pub(crate) fn field16<'b>(
         → value_at table.now result i ≡ under (has m.0 i) (step_of (name n) (value_at table.now a.now i)) }
     ensures legal { AreLegal table.now result }
 {
-    load16(&find16(a, symbol, m), table, m)
+    lane_field::field16(a, symbol, table, m)
 }
 
 /// The items at a place in the lists of the lanes of `m`.
