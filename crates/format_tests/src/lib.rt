@@ -1,5 +1,6 @@
-//! Tests of what lies below the query language: values, the outside, cells, symbol tables, blocks, files and lines. Each case
-//! is a row of a table, bytes or a value beside what stands in README.md or docs/FORMAT.md for it.
+//! Tests of what lies below the query language: values, the outside, cells, symbol tables, blocks, files, lines and the
+//! rows of made logs. Each case is a row of a table, bytes or a value beside what stands in README.md or docs/FORMAT.md for
+//! it.
 #![tactic(auto)]
 
 #[cfg(test)]
@@ -14,6 +15,8 @@ mod file_tests;
 mod line_tests;
 #[cfg(test)]
 mod line_value_tests;
+#[cfg(test)]
+mod log_tests;
 #[cfg(test)]
 mod range_tests;
 #[cfg(test)]
