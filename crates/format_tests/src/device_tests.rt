@@ -3,8 +3,8 @@ use snel_device::{
     Out, SizeFault,
 };
 use std::alloc::Global;
-use std::test::Fail;
 use std::io::BufWriter;
+use std::test::Fail;
 use std::{env, fs, process, rt};
 
 const HELD: &str = "held";

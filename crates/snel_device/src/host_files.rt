@@ -54,7 +54,9 @@ impl<'r, R: rt::Files> HostFiles<'r, R> {
         ensures same_read_faults { self.new.read_faults ≡ self.old.read_faults }
         ensures same_write_faults { self.new.write_faults ≡ self.old.write_faults }
     {
-        if let Some(opened) = &mut self.last && opened.name.as_str() == name {
+        if let Some(opened) = &mut self.last
+            && opened.name.as_str() == name
+        {
             return read_part(&mut opened.file, at, into);
         }
         let mut file = File::open(self.rt, name)?;
