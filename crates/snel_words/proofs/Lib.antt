@@ -2,3 +2,4 @@ pub mod Places
 pub mod Numbers
 pub mod Options
 pub mod Commands
+pub mod NamedFiles

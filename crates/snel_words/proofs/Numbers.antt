@@ -26,11 +26,11 @@ both e f = absurd (cc)
 all_hold : (a b c : Bool) → a ≡ true → b ≡ true → c ≡ true → (a && b && c) ≡ true
 all_hold a b c e f g = cc
 
-first_of : (a b c : Bool) → (a && b && c) ≡ true → a ≡ true
+pub first_of : (a b c : Bool) → (a && b && c) ≡ true → a ≡ true
 first_of true b c e = refl
 first_of false b c e = e
 
-second_of : (a b c : Bool) → (a && b && c) ≡ true → b ≡ true
+pub second_of : (a b c : Bool) → (a && b && c) ≡ true → b ≡ true
 second_of true true c e = refl
 second_of true false c e = e
 second_of false b c e = absurd (cc)
