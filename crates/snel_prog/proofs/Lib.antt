@@ -1,5 +1,4 @@
 mod Sink
-mod Statuses
-mod Headlines
 mod Commands
-mod Lines
+mod Memory
+mod Asked
