@@ -34,6 +34,5 @@ pub fn check_files<F: Files, O: Out>(
     ensures told { F.told files.new ≡ F.told files.old }
     ensures same_write_faults { F.write_faults files.new ≡ F.write_faults files.old }
 {
-    let _ = (alloc, names, files, out);
     Err(QueryFault::OutOfMemory)
 }

@@ -57,6 +57,5 @@ pub fn run_query<F: Files, O: Out>(
     ensures told { F.told files.new ≡ F.told files.old }
     ensures same_write_faults { F.write_faults files.new ≡ F.write_faults files.old }
 {
-    let _ = (alloc, sql, names, files, out);
     Err(QueryFault::OutOfMemory)
 }

@@ -2,3 +2,6 @@ pub mod Exact
 pub mod Batches
 pub mod Named
 mod Some
+pub mod Plain
+mod Splits
+pub mod Ended

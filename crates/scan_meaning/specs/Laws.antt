@@ -10,8 +10,10 @@ use Rattle.range_meaning.specs.Excluded.{IsExcluded, IsSoundEntry}
 use Rattle.file_meaning.specs.Files.{Entry}
 use Rattle.scan_meaning.specs.Blocks.{Block, stored_rows, is_sound}
 use Rattle.scan_meaning.specs.Wanted.{bounds_by, is_wanted}
-use Rattle.scan_meaning.specs.Batches.{first_bad, Counts, IsFirstBad, front}
+use Rattle.scan_meaning.specs.Batches.{first_bad, is_plain, Counts, IsFirstBad, front}
 use Rattle.scan_meaning.specs.Verdicts.{Verdict, Finds}
+use Rattle.scan_meaning.specs.Answers.{EndsAs}
+use Rattle.scan_meaning.specs.Headline.{AnswersFiles}
 
 -- The rows of a block are those of which its bytes are a block of as many rows as its entry says, and it has none exactly where it is damaged.
 pub record BlocksAreExact : Type 0 where
@@ -49,3 +51,11 @@ SomeCount = (q : Query) (bs : List Block) → (count : ℕ) × Counts q bs count
 -- The first bad block in the batches that count is the first of all.
 abbrev pub FirstBadIsFirst : Type 0
 FirstBadIsFirst = (q : Query) (bs : List Block) (b : Block) → IsFirstBad q bs b → first_bad bs ≡ Some b
+
+-- A query that neither groups nor sorts, and that ended as each verdict allows that names and files give rise to, has written lines of an
+-- answer for the rows of its files.
+abbrev pub EndedIsAnswered : Type 0
+EndedIsAnswered =
+    (q : Query) (names : List (List ℕ)) (told : Option Contents) (status : ℕ) (old new : Option (List ℕ))
+    → is_plain q ≡ true → ((v : Verdict) → Finds q names told v → EndsAs q v status old new)
+    → AnswersFiles q names told status old new
