@@ -1,9 +1,6 @@
 mod Forms
 mod Sink
-mod Verdicts
-pub mod Built
-mod OneBlock
-mod BlockEnds
-mod Headlines
-mod Counting
+mod Plain
+mod Nothing
 mod Explaining
+pub mod Built

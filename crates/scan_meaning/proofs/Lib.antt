@@ -1,0 +1,7 @@
+pub mod Exact
+pub mod Batches
+pub mod Named
+mod Some
+pub mod Plain
+mod Splits
+pub mod Ended

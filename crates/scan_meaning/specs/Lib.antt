@@ -1,0 +1,10 @@
+pub mod Blocks
+pub mod Wanted
+pub mod Batches
+pub mod Opened
+pub mod Verdicts
+pub mod Answers
+pub mod Causes
+pub mod Checks
+pub mod Headline
+pub mod Laws
