@@ -23,21 +23,29 @@ use query_run::QueryFault;
 use run::snel;
 use snel_device::{HostFiles, HostInput, HostOut, OpenGate};
 use snel_values::Words;
-use std::io::{BufWriter, ErrorKind, IsTerminal, Write};
+use std::alloc::Global;
+use std::io::{BufWriter, ErrorKind, IsTerminal, Stderr, Stdin, Write};
 use std::process::ExitCode;
+use std::thread::Threads;
 use std::{env, rt};
 
 // How many bytes are gathered for one write to standard output, where that is no terminal.
 const PIECE_BYTES: usize = 65_536;
 
 fn main(rt: HostRuntime) -> ExitCode {
+    let mut err = HostOut::new(rt.stderr());
+    let words = match words_of(&rt) {
+        Ok(words) => words,
+        Err(refusal) => return ExitCode::from(refuse(rt.alloc(), refusal, &mut err)),
+    };
+    let stdin = HostInput::new(rt.stdin());
     let stdout = rt.stdout();
     let status = if stdout.is_terminal() {
-        answer(&rt, stdout)
+        answer(&rt, &words, stdin, stdout, &mut err)
     } else {
         match BufWriter::with_capacity(rt.alloc(), PIECE_BYTES, stdout) {
-            Ok(gathered) => answer(&rt, gathered),
-            Err(_) => refuse(&rt, Refusal::Query(QueryFault::OutOfMemory)),
+            Ok(gathered) => answer(&rt, &words, stdin, gathered, &mut err),
+            Err(_) => refuse(rt.alloc(), Refusal::Query(QueryFault::OutOfMemory), &mut err),
         }
     };
     ExitCode::from(status)
@@ -45,35 +53,25 @@ fn main(rt: HostRuntime) -> ExitCode {
 
 // Does what the words ask, writes what it puts to `stdout`, and answers the status. What the writer holds back is handed on
 // before; where that fails, a call that was refused nothing ends as one whose put failed.
-fn answer<W: Write + Drop>(rt: &HostRuntime, stdout: W) -> u8 {
-    let words = match words_of(rt) {
-        Ok(words) => words,
-        Err(refusal) => return refuse(rt, refusal),
-    };
+fn answer<R: Threads + Sync + rt::Files + AllocGlobal, W: Write + Drop>(
+    rt: &R,
+    words: &Words,
+    mut stdin: HostInput<Stdin>,
+    stdout: W,
+    err: &mut HostOut<Stderr>,
+) -> u8 {
     let mut files = HostFiles::new(rt, rt.alloc());
-    let mut input = HostInput::new(rt.stdin());
     let mut out = HostOut::new(stdout);
-    let mut err = HostOut::new(rt.stderr());
-    let status = snel(
-        rt,
-        rt.alloc(),
-        &words,
-        &mut files,
-        &mut input,
-        &mut out,
-        &mut err,
-        &OpenGate,
-    );
+    let status = snel(rt, rt.alloc(), words, &mut files, &mut stdin, &mut out, err, &OpenGate);
     match out.end() {
-        Err(_) if status == 0 => refuse(rt, Refusal::Query(QueryFault::WriteFault)),
+        Err(_) if status == 0 => refuse(rt.alloc(), Refusal::Query(QueryFault::WriteFault), err),
         _ => status,
     }
 }
 
 // Writes the line of a refusal that is about no file, and answers its status.
-fn refuse(rt: &HostRuntime, refusal: Refusal) -> u8 {
-    let mut err = HostOut::new(rt.stderr());
-    report::report(Err(refusal), &Words::new(rt.alloc()), &mut err);
+fn refuse(alloc: Global, refusal: Refusal, err: &mut HostOut<Stderr>) -> u8 {
+    report::report(Err(refusal), &Words::new(alloc), err);
     refusal.status()
 }
 
