@@ -1,5 +1,5 @@
 -- What each command's own call says of how it came out.
-use Rattle.std.proofs.Common.{◌≡◌, ℕ, Bool, true, false, List, Option, Some, None, Result, Ok, Err, refl, ap, subst, sym, ◌∙◌, arith}
+use Rattle.std.proofs.Common.{◌≡◌, ℕ, Bool, true, false, List, Option, Some, None, Result, Ok, Err, ◌≤◌, refl, ap, subst, sym, ◌∙◌, arith}
 use Rattle.std.specs.Prelude.{length}
 use Rattle.snel_device.specs.Contents.{Contents}
 use Rattle.tree_meaning.specs.Tree.{Query as QueryTree}
@@ -10,7 +10,8 @@ use Rattle.query_run.specs.declared.sum.QuerySum.{QuerySum}
 use Rattle.query_run.specs.Queries.{Accepts}
 use Rattle.query_run.specs.Statuses as of_query
 use Rattle.query_run.specs.Statuses.{IsAbsent}
-use Rattle.query_run.specs.Faults.{HasItsCause, StopsSo}
+use Rattle.query_run.specs.Faults.{HasItsCause, IsQuiet, StopsSo}
+use Rattle.std.specs.Io.KnownBytes.{Keeps}
 use Rattle.query_run.specs.Checking.{HasCheckCause}
 use Rattle.query_run.specs.Sums.{SumsUp}
 use Rattle.query_run.specs.Headline as query_headline
@@ -136,3 +137,13 @@ module _ (sql : List ℕ) (names : List (List ℕ)) (before now : ℕ) (old new 
   stops told (NotAFile k) h = stops_not told 5 (λ e. omega (arith, e)) (λ e. omega (arith, e))
   stops told WriteFault h = stops_not told 9 (λ e. omega (arith, e)) (λ e. omega (arith, e))
   stops told OutOfMemory h = stops_not told 10 (λ e. omega (arith, e)) (λ e. omega (arith, e))
+
+-- a fault before the first batch leaves the sink as it was
+pub quiet : {A : Type 0} (f : QueryFault) (old new : Option (List ℕ)) → IsQuiet {A = A} (Err f) old new → 2 ≤ of_query.status_of f → of_query.status_of f ≤ 5 → Keeps old new
+quiet (Text q) old new h least most = h
+quiet (Absent k) old new h least most = h
+quiet (NotAFile k) old new h least most = h
+quiet (Damaged file block) old new h least most = absurd (omega (arith, most))
+quiet ReadFault old new h least most = absurd (omega (arith, most))
+quiet WriteFault old new h least most = absurd (omega (arith, most))
+quiet OutOfMemory old new h least most = absurd (omega (arith, most))

@@ -2,3 +2,4 @@ mod Sink
 mod Commands
 mod Memory
 mod Asked
+mod Comes

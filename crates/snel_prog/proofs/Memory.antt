@@ -10,7 +10,7 @@ use Rattle.snel_prog.specs.Causes.{Says}
 use Rattle.snel_prog.specs.Ends.{Ends}
 use Rattle.snel_prog.specs.Effects.{ReadsBytes}
 use Rattle.snel_prog.specs.Headline.{Headline}
-use Rattle.snel_prog.specs.Stops.{Stops}
+use Rattle.snel_prog.specs.Stops.{Stops, StaysQuiet}
 use Rattle.snel_prog.proofs.Sink.{Keeps-same}
 
 pub headline : (ask : Ask) (told : Option Contents) (a : Option (List ℕ)) → Headline ask told 10 a a
@@ -48,3 +48,9 @@ reads nothing told n = refl
 reads (query settings sql names) told n = of_query.reads sql names told n
 reads (check names) told n = tt
 reads (explain sql) told n = refl
+
+pub quiet : (ask : Ask) (a : Option (List ℕ)) → StaysQuiet ask 10 a a
+quiet nothing a least most = Keeps-same a
+quiet (query settings sql names) a least most = Keeps-same a
+quiet (check names) a = tt
+quiet (explain sql) a least most = Keeps-same a

@@ -6,3 +6,4 @@ pub mod Ends
 pub mod Headline
 pub mod Effects
 pub mod Stops
+pub mod Comes

@@ -1,5 +1,6 @@
 -- What a query has written that a bad block or a failed read ended.
-use Rattle.std.specs.Prelude.{◌≡◌, ℕ, IsTrue, List, ⊤, Option, Some}
+use Rattle.std.specs.Prelude.{◌≡◌, ◌≤◌, ℕ, IsTrue, List, ⊤, Option, Some}
+use Rattle.std.specs.Io.KnownBytes.{Keeps}
 use Rattle.std.specs.Option.{ForSome}
 use Rattle.snel_device.specs.Contents.{Contents}
 use Rattle.tree_meaning.specs.Tree.{Query as QueryTree}
@@ -22,3 +23,8 @@ pub record StopsPlain (sql : List ℕ) (names : List (List ℕ)) (told : Option 
 abbrev pub Stops : Ask → Option Contents → ℕ → ℕ → ℕ → Option (List ℕ) → Option (List ℕ) → Type 0
 Stops (query settings sql names) told status before now old new = StopsPlain sql names told status before now old new
 Stops ask told status before now old new = ⊤
+
+-- Refused words and texts, and a query's files that can't be opened, leave the output as it was. A check writes the lines of the files before.
+abbrev pub StaysQuiet : Ask → ℕ → Option (List ℕ) → Option (List ℕ) → Type 0
+StaysQuiet (check names) status old new = ⊤
+StaysQuiet ask status old new = 2 ≤ status → status ≤ 5 → Keeps old new

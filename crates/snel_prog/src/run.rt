@@ -9,7 +9,8 @@ ghost use Rattle.snel_prog.specs.Causes.{Says, CameOut};
 ghost use Rattle.snel_prog.specs.Ends.{Ends};
 ghost use Rattle.snel_prog.specs.Effects.{ReadsBytes, ChangesFiles, WritesFiles, TakesInput};
 ghost use Rattle.snel_prog.specs.Headline.{Headline};
-ghost use Rattle.snel_prog.specs.Stops.{Stops};
+ghost use Rattle.snel_prog.specs.Stops.{Stops, StaysQuiet};
+ghost use Rattle.snel_prog.specs.Comes.{Comes};
 
 use crate::outcome::{Done, Outcome, Refusal};
 use crate::report::end;
@@ -41,6 +42,8 @@ pub fn snel<R: Threads + Sync, F: Files, I: Input + Send, O: Out, E: Out, G: Gat
     ensures ends { Ends (asked words.now) (F.told files.old) result (O.holds out.old)
         (O.holds out.new) }
 
+    ensures quiet { StaysQuiet (asked words.now) result (O.holds out.old) (O.holds out.new) }
+
     // A query that a bad block or a failed read ends has written whole batches of lines.
     ensures stopped { Stops (asked words.now) (F.told files.old) result (F.taken files.old)
         (F.taken files.new) (O.holds out.old) (O.holds out.new) }
@@ -51,6 +54,10 @@ pub fn snel<R: Threads + Sync, F: Files, I: Input + Send, O: Out, E: Out, G: Gat
     ensures absent { result ≡ 4 → Rose (F.misses files.old) (F.misses files.new) }
     ensures read_fault { result ≡ 8 → Rose (F.read_faults files.old) (F.read_faults files.new) }
     ensures write_fault { result ≡ 9 → Rose (O.faults out.old) (O.faults out.new) }
+
+    // Refused words and texts, and that a call is done against which nothing stands.
+    ensures comes { Comes (asked words.now) (F.told files.old) result (F.read_faults files.old)
+        (F.read_faults files.new) (O.faults out.old) (O.faults out.new) }
 
     // No more bytes are read than the answer costs, and nothing changes but what the command is for.
     ensures taken { ReadsBytes (asked words.now) (F.told files.old) (F.taken files.old)
@@ -84,6 +91,8 @@ fn obey<F: Files, O: Out>(
         (O.holds out.old) (O.holds out.new) }
     ensures ends { Ends (ask_view ask.now) (F.told files.old) (status_after result)
         (O.holds out.old) (O.holds out.new) }
+    ensures quiet { StaysQuiet (ask_view ask.now) (status_after result) (O.holds out.old)
+        (O.holds out.new) }
     ensures stopped { Stops (ask_view ask.now) (F.told files.old) (status_after result)
         (F.taken files.old) (F.taken files.new) (O.holds out.old) (O.holds out.new) }
     ensures cause { Says (ask_view ask.now) (F.told files.old) result }
@@ -123,6 +132,8 @@ fn query_files<F: Files, O: Out>(
         (status_after result) (O.holds out.old) (O.holds out.new) }
     ensures ends { Ends (query settings sql.now names.now) (F.told files.old)
         (status_after result) (O.holds out.old) (O.holds out.new) }
+    ensures quiet { StaysQuiet (query settings sql.now names.now) (status_after result)
+        (O.holds out.old) (O.holds out.new) }
     ensures stopped { Stops (query settings sql.now names.now) (F.told files.old)
         (status_after result) (F.taken files.old) (F.taken files.new) (O.holds out.old)
         (O.holds out.new) }

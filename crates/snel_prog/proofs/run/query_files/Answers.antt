@@ -3,7 +3,7 @@ use Rattle.query_run.specs.declared.query_fault.QueryFault.{QueryFault}
 use Rattle.query_run.specs.Statuses as of_query
 use Rattle.snel_prog.specs.declared.outcome.Done.{Done}
 use Rattle.snel_prog.specs.Causes.{TellsCounts}
-use Rattle.snel_prog.proofs.Commands.{is_absent, is_read_fault, is_write_fault, of_files, stops_not, stops, tells_counts, query_cause}
+use Rattle.snel_prog.proofs.Commands.{is_absent, is_read_fault, is_write_fault, of_files, stops_not, stops, tells_counts, query_cause, quiet}
 use Rattle.snel_prog.proofs.run.query_files.Goals as goal
 
 pub returns-in-Ok-clause-headline : goal.returns-in-Ok-clause-headline
@@ -44,3 +44,9 @@ returns-in-Err-clause-read_fault g c e = c.in-Err.ensures.read_fault (ap (λ (f 
 
 pub returns-in-Err-clause-write_fault : goal.returns-in-Err-clause-write_fault
 returns-in-Err-clause-write_fault g c e = c.in-Err.ensures.write_fault (ap (λ (f : QueryFault). Err f) (is_write_fault c.in-Err.fault e))
+
+pub returns-in-Ok-clause-quiet : goal.returns-in-Ok-clause-quiet
+returns-in-Ok-clause-quiet g c least most = absurd (omega (arith, least))
+
+pub returns-in-Err-clause-quiet : goal.returns-in-Err-clause-quiet
+returns-in-Err-clause-quiet g c least most = quiet c.in-Err.fault _ _ c.in-Err.ensures.quiet least most

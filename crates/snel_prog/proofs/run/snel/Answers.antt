@@ -1,0 +1,133 @@
+use Rattle.std.proofs.Common.{◌≡◌, ℕ, Err, sym, subst, ◌∙◌, arith}
+use Rattle.std.specs.Io.KnownBytes.{Appends}
+use Rattle.snel_device.specs.Causes.{Rose}
+use Rattle.query_run.specs.declared.query_fault.QueryFault.TheVariants.{OutOfMemory}
+use Rattle.snel_prog.specs.declared.outcome.Refusal.TheVariants.{Query}
+use Rattle.snel_words.specs.Words.{Ask, asked}
+use Rattle.snel_words.specs.Asked.{ask_view}
+use Rattle.snel_words.specs.NamedFiles.{HasNames}
+use Rattle.snel_words.proofs.NamedFiles.{asked_has_names}
+use Rattle.snel_prog.specs.Outcomes.{status_after}
+use Rattle.snel_prog.specs.Lines.{names_of, line_of}
+use Rattle.snel_prog.specs.Causes.{Says}
+use Rattle.snel_prog.specs.Ends.{Ends}
+use Rattle.snel_prog.specs.Effects.{ReadsBytes}
+use Rattle.snel_prog.specs.Headline.{Headline}
+use Rattle.snel_prog.specs.Stops.{Stops, StaysQuiet}
+use Rattle.snel_prog.proofs.Asked.{moved}
+use Rattle.snel_prog.proofs.Memory as memory
+use Rattle.snel_prog.proofs.Comes.{comes}
+use Rattle.snel_prog.proofs.run.snel.Goals as goal
+
+pub obey-requires : goal.obey-requires
+obey-requires g c = subst HasNames (sym c.in-Ok.ensures) (asked_has_names c.args.words.now)
+
+pub returns-in-Ok-clause-headline : goal.returns-in-Ok-clause-headline
+returns-in-Ok-clause-headline g c =
+    let told = g.F.Files.told c.args.files.now in
+    let old = g.O.Out.holds c.args.out.now in
+    let new = g.O.Out.holds c.obey.new.out in
+    moved (λ (a : Ask) (n : ℕ). Headline a told n old new)
+    (ask_view c.in-Ok.ask) (asked c.args.words.now) (status_after c.obey.result) c.end.result c.in-Ok.ensures c.end.ensures.status c.obey.ensures.headline
+
+pub returns-in-Ok-clause-ends : goal.returns-in-Ok-clause-ends
+returns-in-Ok-clause-ends g c =
+    let told = g.F.Files.told c.args.files.now in
+    let old = g.O.Out.holds c.args.out.now in
+    let new = g.O.Out.holds c.obey.new.out in
+    moved (λ (a : Ask) (n : ℕ). Ends a told n old new)
+    (ask_view c.in-Ok.ask) (asked c.args.words.now) (status_after c.obey.result) c.end.result c.in-Ok.ensures c.end.ensures.status c.obey.ensures.ends
+
+pub returns-in-Ok-clause-stopped : goal.returns-in-Ok-clause-stopped
+returns-in-Ok-clause-stopped g c =
+    let told = g.F.Files.told c.args.files.now in
+    let old = g.O.Out.holds c.args.out.now in
+    let new = g.O.Out.holds c.obey.new.out in
+    moved (λ (a : Ask) (n : ℕ). Stops a told n (g.F.Files.taken c.args.files.now) (g.F.Files.taken c.obey.new.files) old new)
+    (ask_view c.in-Ok.ask) (asked c.args.words.now) (status_after c.obey.result) c.end.result c.in-Ok.ensures c.end.ensures.status c.obey.ensures.stopped
+
+pub returns-in-Ok-clause-cause : goal.returns-in-Ok-clause-cause
+returns-in-Ok-clause-cause g c =
+    record {
+      outcome = c.obey.result;
+      is = c.end.ensures.status;
+      says = subst (λ (a : Ask). Says a (g.F.Files.told c.args.files.now) c.obey.result) c.in-Ok.ensures c.obey.ensures.cause;
+      line = subst (λ (a : Ask). ¬ Rose (g.E.Out.faults c.args.err.now) (g.E.Out.faults c.end.new.err)
+      → Appends (g.E.Out.holds c.args.err.now) (g.E.Out.holds c.end.new.err) (line_of (names_of a) c.obey.result)) c.in-Ok.ensures c.end.ensures.line;
+    }
+
+pub returns-in-Ok-clause-absent : goal.returns-in-Ok-clause-absent
+returns-in-Ok-clause-absent g c e =
+    c.obey.ensures.absent (sym c.end.ensures.status ∙ e)
+
+pub returns-in-Ok-clause-read_fault : goal.returns-in-Ok-clause-read_fault
+returns-in-Ok-clause-read_fault g c e =
+    c.obey.ensures.read_fault (sym c.end.ensures.status ∙ e)
+
+pub returns-in-Ok-clause-write_fault : goal.returns-in-Ok-clause-write_fault
+returns-in-Ok-clause-write_fault g c e =
+    c.obey.ensures.write_fault (sym c.end.ensures.status ∙ e)
+
+pub returns-in-Ok-clause-taken : goal.returns-in-Ok-clause-taken
+returns-in-Ok-clause-taken g c =
+    subst (λ (a : Ask). ReadsBytes a (g.F.Files.told c.args.files.now) (g.F.Files.taken c.args.files.now) (g.F.Files.taken c.obey.new.files)) c.in-Ok.ensures c.obey.ensures.taken
+
+pub returns-in-Ok-clause-comes : goal.returns-in-Ok-clause-comes
+returns-in-Ok-clause-comes g c =
+    comes (asked c.args.words.now) (g.F.Files.told c.args.files.now) c.end.result _ _ _ _ _ _ _ _ _ _
+    (returns-in-Ok-clause-ends g c) (returns-in-Ok-clause-cause g c) (returns-in-Ok-clause-read_fault g c) (returns-in-Ok-clause-write_fault g c)
+
+pub returns-in-Err-clause-headline : goal.returns-in-Err-clause-headline
+returns-in-Err-clause-headline g c =
+    subst (λ (n : ℕ). Headline (asked c.args.words.now) (g.F.Files.told c.args.files.now) n (g.O.Out.holds c.args.out.now) (g.O.Out.holds c.args.out.now)) (sym c.end-2.ensures.status) (memory.headline (asked c.args.words.now) (g.F.Files.told c.args.files.now) (g.O.Out.holds c.args.out.now))
+
+pub returns-in-Err-clause-ends : goal.returns-in-Err-clause-ends
+returns-in-Err-clause-ends g c =
+    subst (λ (n : ℕ). Ends (asked c.args.words.now) (g.F.Files.told c.args.files.now) n (g.O.Out.holds c.args.out.now) (g.O.Out.holds c.args.out.now)) (sym c.end-2.ensures.status) (memory.ends (asked c.args.words.now) (g.F.Files.told c.args.files.now) (g.O.Out.holds c.args.out.now))
+
+pub returns-in-Err-clause-stopped : goal.returns-in-Err-clause-stopped
+returns-in-Err-clause-stopped g c =
+    subst (λ (n : ℕ). Stops (asked c.args.words.now) (g.F.Files.told c.args.files.now) n (g.F.Files.taken c.args.files.now) (g.F.Files.taken c.args.files.now) (g.O.Out.holds c.args.out.now) (g.O.Out.holds c.args.out.now)) (sym c.end-2.ensures.status) (memory.stops (asked c.args.words.now) (g.F.Files.told c.args.files.now) (g.F.Files.taken c.args.files.now) (g.F.Files.taken c.args.files.now) (g.O.Out.holds c.args.out.now) (g.O.Out.holds c.args.out.now))
+
+pub returns-in-Err-clause-cause : goal.returns-in-Err-clause-cause
+returns-in-Err-clause-cause g c =
+    record {
+      outcome = Err (Query OutOfMemory);
+      is = c.end-2.ensures.status;
+      says = memory.says (asked c.args.words.now) (g.F.Files.told c.args.files.now);
+      line = c.end-2.ensures.line;
+    }
+
+pub returns-in-Err-clause-absent : goal.returns-in-Err-clause-absent
+returns-in-Err-clause-absent g c e =
+    absurd (omega (arith, e, c.end-2.ensures.status))
+
+pub returns-in-Err-clause-read_fault : goal.returns-in-Err-clause-read_fault
+returns-in-Err-clause-read_fault g c e =
+    absurd (omega (arith, e, c.end-2.ensures.status))
+
+pub returns-in-Err-clause-write_fault : goal.returns-in-Err-clause-write_fault
+returns-in-Err-clause-write_fault g c e =
+    absurd (omega (arith, e, c.end-2.ensures.status))
+
+pub returns-in-Err-clause-taken : goal.returns-in-Err-clause-taken
+returns-in-Err-clause-taken g c =
+    memory.reads (asked c.args.words.now) (g.F.Files.told c.args.files.now) (g.F.Files.taken c.args.files.now)
+
+pub returns-in-Err-clause-comes : goal.returns-in-Err-clause-comes
+returns-in-Err-clause-comes g c =
+    comes (asked c.args.words.now) (g.F.Files.told c.args.files.now) c.end-2.result _ _ _ _ _ _ _ _ _ _
+    (returns-in-Err-clause-ends g c) (returns-in-Err-clause-cause g c) (returns-in-Err-clause-read_fault g c) (returns-in-Err-clause-write_fault g c)
+
+
+pub returns-in-Ok-clause-quiet : goal.returns-in-Ok-clause-quiet
+returns-in-Ok-clause-quiet g c =
+    let old = g.O.Out.holds c.args.out.now in
+    let new = g.O.Out.holds c.obey.new.out in
+    moved (λ (a : Ask) (n : ℕ). StaysQuiet a n old new)
+    (ask_view c.in-Ok.ask) (asked c.args.words.now) (status_after c.obey.result) c.end.result c.in-Ok.ensures c.end.ensures.status c.obey.ensures.quiet
+
+pub returns-in-Err-clause-quiet : goal.returns-in-Err-clause-quiet
+returns-in-Err-clause-quiet g c =
+    subst (λ (n : ℕ). StaysQuiet (asked c.args.words.now) n (g.O.Out.holds c.args.out.now) (g.O.Out.holds c.args.out.now)) (sym c.end-2.ensures.status)
+    (memory.quiet (asked c.args.words.now) (g.O.Out.holds c.args.out.now))
