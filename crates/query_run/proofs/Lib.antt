@@ -1,6 +1,6 @@
 mod Forms
 mod Sink
 mod Plain
-mod Nothing
+pub mod Nothing
 mod Explaining
 pub mod Built

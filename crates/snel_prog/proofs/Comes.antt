@@ -1,5 +1,5 @@
 -- When statuses come.
-use Rattle.std.proofs.Common.{◌≡◌, ◌⊎◌, inl, inr, ℕ, List, [], ◌∷◌, Bool, true, false, eqb, Option, Some, None, Result, Ok, Err, refl, ap, sym, subst, ◌∙◌, elim, arith}
+use Rattle.std.proofs.Common.{◌≡◌, ◌⊎◌, inl, inr, ℕ, List, [], ◌∷◌, Bool, true, false, eqb, Option, Some, None, Result, Ok, Err, refl, ap, sym, subst, ◌∙◌, arith}
 use Rattle.std.proofs.lemmas.Bool.Decides.{nat_tests}
 use Rattle.std.specs.Prelude.{IsTrue, ◌==◌}
 use Rattle.std.specs.List.{list_any}
@@ -117,12 +117,12 @@ comes ask told status faults now reads_before reads_now writes_before writes_now
   text = text_exactly told status faults now old new told_old told_new ask ends came;
   answered = λ settings sql names q bs n asks accepts finds good no_read no_write.
       let here = subst (λ (a : Ask). Ends a told status old new) asks ends in
-      let as = here.accepted q _ accepts finds in
-      let no_bad : status ≡ 6 → ⊥ = λ e. let b = as.wrote.bad e in let first = first_of_all q bs b.0 b.1 in cc in
-      one_of_two status 0 10 (but status 9 _ (λ e. no_write (writes e)) (but status 6 _ no_bad (but status 8 _ (λ e. no_read (reads e)) as.allowed)));
+      let so = here.accepted q _ accepts finds in
+      let no_bad : status ≡ 6 → ⊥ = λ e. let b = so.wrote.bad e in let first = first_of_all q bs b.0 b.1 in cc in
+      one_of_two status 0 10 (but status 9 _ (λ e. no_write (writes e)) (but status 6 _ no_bad (but status 8 _ (λ e. no_read (reads e)) so.allowed)));
   checked = λ names files asks tells sounds no_read no_write.
-      let here = subst (λ (t : Option Contents). Ends (check names) t status old new) tells (subst (λ (a : Ask). Ends a told status old new) asks ends) in
-      let ended = here sound sounds in
+      let here = subst (λ (a : Ask). Ends a told status old new) asks ends in
+      let ended = here files tells sound sounds in
       let among = sound_statuses names files status ended.files_are sounds.files_are
       (all_named files names ended.files_are sounds.files_are ended.are sounds.are) sounds.is ended.allowed in
       one_of_two status 0 10 (but status 9 _ (λ e. no_write (writes e)) (but status 8 _ (λ e. no_read (reads e)) among));

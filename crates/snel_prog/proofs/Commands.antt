@@ -27,14 +27,14 @@ use Rattle.snel_prog.specs.Headline.{Headline}
 use Rattle.snel_prog.specs.Stops.{StopsPlain}
 
 -- a fault by its status
-pub is_absent : {A : Type 0} (f : QueryFault) → of_query.status_of f ≡ 4 → IsAbsent {A = A} (Err f)
-is_absent (Absent k) e = tt
-is_absent (Text q) e = absurd (omega (arith, e))
-is_absent (NotAFile k) e = absurd (omega (arith, e))
-is_absent (Damaged file block) e = absurd (omega (arith, e))
-is_absent ReadFault e = absurd (omega (arith, e))
-is_absent WriteFault e = absurd (omega (arith, e))
-is_absent OutOfMemory e = absurd (omega (arith, e))
+pub is_absent : (A : Type 0) (f : QueryFault) → of_query.status_of f ≡ 4 → IsAbsent {A = A} (Err f)
+is_absent A (Absent k) e = tt
+is_absent A (Text q) e = absurd (omega (arith, e))
+is_absent A (NotAFile k) e = absurd (omega (arith, e))
+is_absent A (Damaged file block) e = absurd (omega (arith, e))
+is_absent A ReadFault e = absurd (omega (arith, e))
+is_absent A WriteFault e = absurd (omega (arith, e))
+is_absent A OutOfMemory e = absurd (omega (arith, e))
 
 pub is_read_fault : (f : QueryFault) → of_query.status_of f ≡ 8 → f ≡ ReadFault
 is_read_fault ReadFault e = refl
@@ -55,23 +55,23 @@ is_write_fault ReadFault e = absurd (omega (arith, e))
 is_write_fault OutOfMemory e = absurd (omega (arith, e))
 
 -- what a fault says, whatever the answer at Ok
-pub query_cause : {A B : Type 0} (sql : List ℕ) (names : List (List ℕ)) (told : Option Contents) (f : QueryFault) → HasItsCause {A = A} sql names told (Err f) → HasItsCause {A = B} sql names told (Err f)
-query_cause sql names told (Text q) h = h
-query_cause sql names told (Absent k) h = h
-query_cause sql names told (NotAFile k) h = h
-query_cause sql names told (Damaged file block) h = h
-query_cause sql names told ReadFault h = h
-query_cause sql names told WriteFault h = h
-query_cause sql names told OutOfMemory h = h
+pub query_cause : (A B : Type 0) (sql : List ℕ) (names : List (List ℕ)) (told : Option Contents) (f : QueryFault) → HasItsCause {A = A} sql names told (Err f) → HasItsCause {A = B} sql names told (Err f)
+query_cause A B sql names told (Text q) h = h
+query_cause A B sql names told (Absent k) h = h
+query_cause A B sql names told (NotAFile k) h = h
+query_cause A B sql names told (Damaged file block) h = h
+query_cause A B sql names told ReadFault h = h
+query_cause A B sql names told WriteFault h = h
+query_cause A B sql names told OutOfMemory h = h
 
-pub check_cause : {A B : Type 0} (names : List (List ℕ)) (told : Option Contents) (f : QueryFault) → HasCheckCause {A = A} names told (Err f) → HasCheckCause {A = B} names told (Err f)
-check_cause names told (Text q) h = h
-check_cause names told (Absent k) h = h
-check_cause names told (NotAFile k) h = h
-check_cause names told (Damaged file block) h = h
-check_cause names told ReadFault h = h
-check_cause names told WriteFault h = h
-check_cause names told OutOfMemory h = h
+pub check_cause : (A B : Type 0) (names : List (List ℕ)) (told : Option Contents) (f : QueryFault) → HasCheckCause {A = A} names told (Err f) → HasCheckCause {A = B} names told (Err f)
+check_cause A B names told (Text q) h = h
+check_cause A B names told (Absent k) h = h
+check_cause A B names told (NotAFile k) h = h
+check_cause A B names told (Damaged file block) h = h
+check_cause A B names told ReadFault h = h
+check_cause A B names told WriteFault h = h
+check_cause A B names told OutOfMemory h = h
 
 -- a text is explained without looking at files
 pub explain_cause : (sql : List ℕ) (told : Option Contents) (r : Result Done Refusal) → Says (explain sql) None r → Says (explain sql) told r
@@ -86,11 +86,10 @@ is_counted_so true r s = refl
 is_counted_so false r s = refl
 
 pub tells_counts : (stats : Bool) (sql : List ℕ) (names : List (List ℕ)) (told : Option Contents) (sum : QuerySum) → ((q : QueryTree) → Accepts sql q → SumsUp q names told sum) → TellsCounts stats sql names told (done_of stats sum.read sum.skipped)
-tells_counts stats sql names None sum h = record { asked = is_counted_so stats sum.read sum.skipped; right = λ q accepts. tt }
-tells_counts stats sql names (Some files) sum h = record {
+tells_counts stats sql names told sum h = record {
   asked = is_counted_so stats sum.read sum.skipped;
-  right = λ q accepts bs n count finds counts.
-      let s = h q accepts bs n finds in
+  right = λ q accepts files tells bs n count finds counts.
+      let s = h q accepts files tells bs n finds in
       ap (λ (r : ℕ). done_of stats r sum.skipped) (s.read count counts) ∙ ap (λ (k : ℕ). done_of stats (length (front count bs)) k) s.skipped;
 }
 
@@ -125,25 +124,24 @@ module _ (sql : List ℕ) (names : List (List ℕ)) (before now : ℕ) (old new 
   pub stops_not : (told : Option Contents) (status : ℕ) → (status ≡ 6 → ⊥) → (status ≡ 8 → ⊥) → StopsPlain sql names told status before now old new
   stops_not told status no_bad no_fault = record { bad = λ q e accepts plain. absurd (no_bad e); unread = λ q e accepts plain. absurd (no_fault e) }
 
-  pub stops : {A : Type 0} (told : Option Contents) (f : QueryFault) → ((q : QueryTree) → Accepts sql q → StopsSo {A = A} q names told (Err f) before now old new) → StopsPlain sql names told (of_query.status_of f) before now old new
-  stops None (Damaged file block) h = record { bad = λ q e accepts plain. tt; unread = λ q e accepts plain. tt }
-  stops (Some files) (Damaged file block) h = record {
-    bad = λ q e accepts plain. let s = h q accepts plain in (s.0, s.1.0, (s.1.1.0, s.1.1.1.1));
+  pub stops : (A : Type 0) (told : Option Contents) (f : QueryFault) → ((q : QueryTree) → Accepts sql q → StopsSo {A = A} q names told (Err f) before now old new) → StopsPlain sql names told (of_query.status_of f) before now old new
+  stops A told (Damaged file block) h = record {
+    bad = λ q e accepts plain files tells. let s = h q accepts plain files tells in (s.0, s.1, (s.2.0, s.2.2));
     unread = λ q e accepts plain. absurd (omega (arith, e));
   }
-  stops told ReadFault h = record { bad = λ q e accepts plain. absurd (omega (arith, e)); unread = λ q e accepts plain. h q accepts plain }
-  stops told (Text q) h = stops_not told 3 (λ e. omega (arith, e)) (λ e. omega (arith, e))
-  stops told (Absent k) h = stops_not told 4 (λ e. omega (arith, e)) (λ e. omega (arith, e))
-  stops told (NotAFile k) h = stops_not told 5 (λ e. omega (arith, e)) (λ e. omega (arith, e))
-  stops told WriteFault h = stops_not told 9 (λ e. omega (arith, e)) (λ e. omega (arith, e))
-  stops told OutOfMemory h = stops_not told 10 (λ e. omega (arith, e)) (λ e. omega (arith, e))
+  stops A told ReadFault h = record { bad = λ q e accepts plain. absurd (omega (arith, e)); unread = λ q e accepts plain. h q accepts plain }
+  stops A told (Text q) h = stops_not told 3 (λ e. omega (arith, e)) (λ e. omega (arith, e))
+  stops A told (Absent k) h = stops_not told 4 (λ e. omega (arith, e)) (λ e. omega (arith, e))
+  stops A told (NotAFile k) h = stops_not told 5 (λ e. omega (arith, e)) (λ e. omega (arith, e))
+  stops A told WriteFault h = stops_not told 9 (λ e. omega (arith, e)) (λ e. omega (arith, e))
+  stops A told OutOfMemory h = stops_not told 10 (λ e. omega (arith, e)) (λ e. omega (arith, e))
 
 -- a fault before the first batch leaves the sink as it was
-pub quiet : {A : Type 0} (f : QueryFault) (old new : Option (List ℕ)) → IsQuiet {A = A} (Err f) old new → 2 ≤ of_query.status_of f → of_query.status_of f ≤ 5 → Keeps old new
-quiet (Text q) old new h least most = h
-quiet (Absent k) old new h least most = h
-quiet (NotAFile k) old new h least most = h
-quiet (Damaged file block) old new h least most = absurd (omega (arith, most))
-quiet ReadFault old new h least most = absurd (omega (arith, most))
-quiet WriteFault old new h least most = absurd (omega (arith, most))
-quiet OutOfMemory old new h least most = absurd (omega (arith, most))
+pub quiet : (A : Type 0) (f : QueryFault) (old new : Option (List ℕ)) → IsQuiet {A = A} (Err f) old new → 2 ≤ of_query.status_of f → of_query.status_of f ≤ 5 → Keeps old new
+quiet A (Text q) old new h least most = h
+quiet A (Absent k) old new h least most = h
+quiet A (NotAFile k) old new h least most = h
+quiet A (Damaged file block) old new h least most = absurd (omega (arith, most))
+quiet A ReadFault old new h least most = absurd (omega (arith, most))
+quiet A WriteFault old new h least most = absurd (omega (arith, most))
+quiet A OutOfMemory old new h least most = absurd (omega (arith, most))

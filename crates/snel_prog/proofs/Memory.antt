@@ -1,5 +1,5 @@
 -- How a call may end that found no memory for its words.
-use Rattle.std.proofs.Common.{◌≡◌, ℕ, List, [], ◌∷◌, Option, Err, refl, elim, inl, inr, arith}
+use Rattle.std.proofs.Common.{◌≡◌, ℕ, List, [], ◌∷◌, Option, Err, refl, inl, inr, arith}
 use Rattle.snel_device.specs.Contents.{Contents}
 use Rattle.query_run.specs.declared.query_fault.QueryFault.TheVariants.{OutOfMemory}
 use Rattle.query_run.specs.Explained.{EndsExplained}

@@ -4,7 +4,7 @@ use Rattle.std.specs.Fmt.{decimal}
 use Rattle.query_run.specs.TextFaults.{refused_view}
 use Rattle.query_run.specs.declared.query_fault.QueryFault.TheVariants.{Text, Absent, NotAFile, Damaged, ReadFault, WriteFault, OutOfMemory}
 use Rattle.snel_words.specs.Words.{Ask, nothing, query, check, explain}
-use Rattle.snel_prog.specs.Messages.{about, query_line}
+use Rattle.snel_prog.specs.Messages.{about, numbered, query_line}
 use Rattle.snel_prog.specs.declared.outcome.Refusal.{Refusal}
 use Rattle.snel_prog.specs.declared.outcome.Refusal.TheVariants.{Words, Query}
 use Rattle.snel_prog.specs.declared.outcome.Done.{Done}
@@ -34,7 +34,7 @@ refusal_line names (Query OutOfMemory) = codes "snel: out of memory\n"
 -- nothing, or the counts of blocks
 abbrev pub done_line : Done → List ℕ
 done_line All = []
-done_line (Counted r s) = codes "blocks read " ++ (decimal r ++ (codes ", skipped " ++ (decimal s ++ codes "\n")))
+done_line (Counted r s) = numbered (codes "blocks read ") r ++ (numbered (codes ", skipped ") s ++ codes "\n")
 
 abbrev pub line_of : List (List ℕ) → Result Done Refusal → List ℕ
 line_of names (Ok d) = done_line d

@@ -224,9 +224,16 @@ fn puts_done<E: Out>(err: &mut E, done: Done) -> Result<(), Failed>
 {
     match done {
         Done::All => Ok(()),
-        Done::Counted { read, skipped } => {
-            puts_number(err, "blocks read ", read)?;
-            puts_numbered(err, ", skipped ", skipped, "\n")
-        }
+        Done::Counted { read, skipped } => puts_counts(err, read, skipped),
     }
+}
+
+fn puts_counts<E: Out>(err: &mut E, read: u32, skipped: u32) -> Result<(), Failed>
+    ensures line { OnOk result (Appends (E.holds err.old) (E.holds err.new)
+        (numbered (codes "blocks read ") read ++ (numbered (codes ", skipped ") skipped
+        ++ codes "\n"))) }
+    ensures failed { OnErr result (Rose (E.faults err.old) (E.faults err.new)) }
+{
+    puts_number(err, "blocks read ", read)?;
+    puts_numbered(err, ", skipped ", skipped, "\n")
 }

@@ -1,5 +1,6 @@
 use Rattle.std.proofs.Common.{◌≡◌, ap, sym, subst, Err, arith}
 use Rattle.query_run.specs.declared.query_fault.QueryFault.{QueryFault}
+use Rattle.query_run.specs.declared.sum.QuerySum.{QuerySum}
 use Rattle.query_run.specs.Statuses as of_query
 use Rattle.snel_prog.specs.declared.outcome.Done.{Done}
 use Rattle.snel_prog.specs.Causes.{TellsCounts}
@@ -31,13 +32,13 @@ pub returns-in-Err-clause-headline : goal.returns-in-Err-clause-headline
 returns-in-Err-clause-headline g c = of_files _ (of_query.status_of c.in-Err.fault) _ _ c.args.settings _ _ c.in-Err.ensures.headline
 
 pub returns-in-Err-clause-stopped : goal.returns-in-Err-clause-stopped
-returns-in-Err-clause-stopped g c = stops _ _ _ _ _ _ _ c.in-Err.fault c.in-Err.ensures.stopped
+returns-in-Err-clause-stopped g c = stops _ _ _ _ _ _ QuerySum _ c.in-Err.fault c.in-Err.ensures.stopped
 
 pub returns-in-Err-clause-cause : goal.returns-in-Err-clause-cause
-returns-in-Err-clause-cause g c = query_cause c.args.sql.now c.args.names.now (g.F.Files.told c.args.files.now) c.in-Err.fault c.in-Err.ensures.cause
+returns-in-Err-clause-cause g c = query_cause QuerySum Done c.args.sql.now c.args.names.now (g.F.Files.told c.args.files.now) c.in-Err.fault c.in-Err.ensures.cause
 
 pub returns-in-Err-clause-absent : goal.returns-in-Err-clause-absent
-returns-in-Err-clause-absent g c e = c.in-Err.ensures.absent (is_absent c.in-Err.fault e)
+returns-in-Err-clause-absent g c e = c.in-Err.ensures.absent (is_absent QuerySum c.in-Err.fault e)
 
 pub returns-in-Err-clause-read_fault : goal.returns-in-Err-clause-read_fault
 returns-in-Err-clause-read_fault g c e = c.in-Err.ensures.read_fault (ap (λ (f : QueryFault). Err f) (is_read_fault c.in-Err.fault e))
@@ -49,4 +50,4 @@ pub returns-in-Ok-clause-quiet : goal.returns-in-Ok-clause-quiet
 returns-in-Ok-clause-quiet g c least most = absurd (omega (arith, least))
 
 pub returns-in-Err-clause-quiet : goal.returns-in-Err-clause-quiet
-returns-in-Err-clause-quiet g c least most = quiet c.in-Err.fault _ _ c.in-Err.ensures.quiet least most
+returns-in-Err-clause-quiet g c least most = quiet QuerySum c.in-Err.fault _ _ c.in-Err.ensures.quiet least most
