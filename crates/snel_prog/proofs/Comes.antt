@@ -95,14 +95,14 @@ module _ (told : Option Contents) (status faults now : ℕ) (old new told_old to
       let same : text ≡ sql = cc in
       subst (λ (t : List ℕ). Exactly 3 status (IsRefused t)) same (record {
         only = λ e. let t = text_refused came.outcome (sym came.is ∙ e) in
-        (refused_view t.0, subst (λ (o : Result Done Refusal). Says (query settings text names) told o) t.1 came.says);
+            (refused_view t.0, subst (λ (o : Result Done Refusal). Says (query settings text names) told o) t.1 came.says);
         always = λ refused. one_of_two status 3 10 (ends.refused refused);
       })
   text_exactly (explain text) ends came sql is =
       let same : text ≡ sql = cc in
       subst (λ (t : List ℕ). Exactly 3 status (IsRefused t)) same (record {
         only = λ e. let t = text_refused came.outcome (sym came.is ∙ e) in
-        (refused_view t.0, subst (λ (o : Result Done Refusal). Says (explain text) told o) t.1 came.says);
+            (refused_view t.0, subst (λ (o : Result Done Refusal). Says (explain text) told o) t.1 came.says);
         always = λ refused. one_of_two status 3 10 (ends.refused refused);
       })
 
@@ -119,14 +119,15 @@ comes ask told status faults now reads_before reads_now writes_before writes_now
       let here = subst (λ (a : Ask). Ends a told status old new) asks ends in
       let so = here.accepted q _ accepts finds in
       let no_bad : status ≡ 6 → ⊥ = λ e. let b = so.wrote.bad e in let first = first_of_all q bs b.0 b.1 in cc in
-      one_of_two status 0 10 (but status 9 _ (λ e. no_write (writes e)) (but status 6 _ no_bad (but status 8 _ (λ e. no_read (reads e)) so.allowed)));
+      one_of_two status 0 10 (but status 9 (0 ∷ 10 ∷ []) (λ e. no_write (writes e)) (but status 6 (9 ∷ 0 ∷ 10 ∷ []) no_bad
+      (but status 8 (6 ∷ 9 ∷ 0 ∷ 10 ∷ []) (λ e. no_read (reads e)) so.allowed)));
   checked = λ names files asks tells sounds no_read no_write.
       let here = subst (λ (a : Ask). Ends a told status old new) asks ends in
       let ended = here files tells sound sounds in
       let among = sound_statuses names files status ended.files_are sounds.files_are
       (all_named files names ended.files_are sounds.files_are ended.are sounds.are) sounds.is ended.allowed in
-      one_of_two status 0 10 (but status 9 _ (λ e. no_write (writes e)) (but status 8 _ (λ e. no_read (reads e)) among));
+      one_of_two status 0 10 (but status 9 (0 ∷ 10 ∷ []) (λ e. no_write (writes e)) (but status 8 (9 ∷ 0 ∷ 10 ∷ []) (λ e. no_read (reads e)) among));
   listed = λ sql asks accepted no_write.
       let here = subst (λ (a : Ask). Ends a told status old new) asks ends in
-      one_of_two status 0 10 (but status 9 _ (λ e. no_write (writes e)) (here.accepted accepted));
+      one_of_two status 0 10 (but status 9 (0 ∷ 10 ∷ []) (λ e. no_write (writes e)) (here.accepted accepted));
 }

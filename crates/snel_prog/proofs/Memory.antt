@@ -50,7 +50,7 @@ reads (check names) told n = tt
 reads (explain sql) told n = refl
 
 pub quiet : (ask : Ask) (a : Option (List ℕ)) → StaysQuiet ask 10 a a
-quiet nothing a least most = Keeps-same a
-quiet (query settings sql names) a least most = Keeps-same a
+quiet nothing a = λ least most. Keeps-same a
+quiet (query settings sql names) a = λ least most. Keeps-same a
 quiet (check names) a = tt
-quiet (explain sql) a least most = Keeps-same a
+quiet (explain sql) a = λ least most. Keeps-same a

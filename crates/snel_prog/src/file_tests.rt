@@ -22,7 +22,8 @@ const READ_FAILED: &str = "snel: files: read failed\n";
 
 // A block with one row, a time of 2024 in seconds from its start on, up to 127.
 fn block_at(second: u8) -> [u8; 24] {
-    let mut block = *b"\xe0\x01\x00\xea\xe8\x81\x83\xd5\x87\xb3\x82ts\xda\x8a\x68\x80\x0f\xe8\x81\x81\x80\x80\x80";
+    let mut block =
+        *b"\xe0\x01\x00\xea\xe8\x81\x83\xd5\x87\xb3\x82ts\xda\x8a\x68\x80\x0f\xe8\x81\x81\x80\x80\x80";
     block[23] = 0x80 | second;
     block
 }
@@ -89,7 +90,12 @@ static CALLS: [(&[&str], u8, &str, &str); 30] = [
         "{\"ts\":\"2024-01-01T00:00:01Z\"}\n",
         "blocks read 1, skipped 1\n",
     ),
-    (&["query", BEFORE, "U"], 6, "", "snel: U: block 0 is damaged\n"),
+    (
+        &["query", BEFORE, "U"],
+        6,
+        "",
+        "snel: U: block 0 is damaged\n",
+    ),
     (
         &["query", "--stats", BEFORE, "U"],
         6,
@@ -109,9 +115,19 @@ static CALLS: [(&[&str], u8, &str, &str); 30] = [
         "blocks read 2, skipped 2\n",
     ),
     // A block that breaks its range is bad.
-    (&["query", ALL, "low"], 6, "", "snel: low: block 1 is damaged\n"),
+    (
+        &["query", ALL, "low"],
+        6,
+        "",
+        "snel: low: block 1 is damaged\n",
+    ),
     // The first bad block is named.
-    (&["query", ALL, "six"], 6, "", "snel: six: block 3 is damaged\n"),
+    (
+        &["query", ALL, "six"],
+        6,
+        "",
+        "snel: six: block 3 is damaged\n",
+    ),
     (
         &["query", ALL, "T", "six"],
         6,
@@ -134,7 +150,13 @@ static CALLS: [(&[&str], u8, &str, &str); 30] = [
         "",
     ),
     (
-        &["query", "--stats", "SELECT * FROM logs WHERE FALSE", "T", "rows"],
+        &[
+            "query",
+            "--stats",
+            "SELECT * FROM logs WHERE FALSE",
+            "T",
+            "rows",
+        ],
         0,
         "",
         "blocks read 3, skipped 0\n",
@@ -152,10 +174,24 @@ static CALLS: [(&[&str], u8, &str, &str); 30] = [
         "",
         "snel: cut: not a block file\n",
     ),
-    (&["query", "SELECT", "absent"], 3, "", "snel: query: not a query\n"),
+    (
+        &["query", "SELECT", "absent"],
+        3,
+        "",
+        "snel: query: not a query\n",
+    ),
     // Settings in their order.
     (
-        &["query", "--workers", "64", "--groups", "1", "--stats", ALL, "T"],
+        &[
+            "query",
+            "--workers",
+            "64",
+            "--groups",
+            "1",
+            "--stats",
+            ALL,
+            "T",
+        ],
         0,
         TIMES,
         "blocks read 2, skipped 0\n",
@@ -165,7 +201,12 @@ static CALLS: [(&[&str], u8, &str, &str); 30] = [
     (&["query", "--workers", "65", ALL, "T"], 2, "", OTHER_WORDS),
     (&["query", "--workers", "01", ALL, "T"], 2, "", OTHER_WORDS),
     (&["query", "--workers", "+1", ALL, "T"], 2, "", OTHER_WORDS),
-    (&["query", "--groups", "16777217", ALL, "T"], 2, "", OTHER_WORDS),
+    (
+        &["query", "--groups", "16777217", ALL, "T"],
+        2,
+        "",
+        OTHER_WORDS,
+    ),
     (
         &["query", "--stats", "--workers", "1", ALL, "T"],
         2,
@@ -213,7 +254,11 @@ fn a_bad_block_ends_after_the_batches_before_it(rt: HostRuntime) -> Result<(), F
     files.insert("whole", &many_blocks(rt.alloc(), 64, [64, 64])?)?;
     let mut lines = Vec::new(rt.alloc());
     for second in 0u8..64 {
-        let line = format!(in rt.alloc(); "{{\"ts\":\"2024-01-01T00:0{}:{:02}Z\"}}\n", second / 60, second % 60)?;
+        let line = format!(in rt.alloc();
+            "{{\"ts\":\"2024-01-01T00:0{}:{:02}Z\"}}\n",
+            second / 60,
+            second % 60
+        )?;
         lines.extend_from_slice(line.as_bytes())?;
     }
     let bad = (6, lines.as_slice(), "snel: long: block 64 is damaged\n");
@@ -226,9 +271,22 @@ fn a_bad_block_ends_after_the_batches_before_it(rt: HostRuntime) -> Result<(), F
 // Each line is one put.
 #[test]
 fn the_second_put_may_fail(rt: HostRuntime) {
-    let wanted = (9, b"{\"a\":1,\"b\":\"x\"}\n".as_slice(), "snel: write failed\n");
+    let wanted = (
+        9,
+        b"{\"a\":1,\"b\":\"x\"}\n".as_slice(),
+        "snel: write failed\n",
+    );
     assert!(rt;
-        ends_on_many(&rt, &["query", ALL, "T", "rows"], (&[], &[(4, 0)], &[]), (9, "{\"ts\":\"2024-01-01T00:00:00Z\"}\n{\"ts\":\"2024-01-01T00:00:01Z\"}\n{\"a\":1,\"b\":\"x\"}\n".as_bytes(), "snel: write failed\n"))
+        ends_on_many(
+            &rt,
+            &["query", ALL, "T", "rows"],
+            (&[], &[(4, 0)], &[]),
+            (
+                9,
+                "{\"ts\":\"2024-01-01T00:00:00Z\"}\n{\"ts\":\"2024-01-01T00:00:01Z\"}\n{\"a\":1,\"b\":\"x\"}\n".as_bytes(),
+                "snel: write failed\n"
+            )
+        )
     );
     assert!(rt; ends_on_many(&rt, &["query", ALL, "rows"], (&[], &[(2, 0)], &[]), wanted));
 }
@@ -236,9 +294,18 @@ fn the_second_put_may_fail(rt: HostRuntime) {
 // Every call of the files may fail: three sizes, three tails, three indexes and three blocks.
 #[test]
 fn each_read_of_three_files_may_fail(rt: HostRuntime) {
-    let words = ["query", "SELECT * FROM logs WHERE FALSE", "rows", "none", "T"];
+    let words = [
+        "query",
+        "SELECT * FROM logs WHERE FALSE",
+        "rows",
+        "none",
+        "T",
+    ];
     for call in 1u32..13 {
-        assert!(rt; ends_on_many(&rt, &words, (&[call], &[], &[]), (8, b"", READ_FAILED)), "{call}");
+        assert!(rt;
+            ends_on_many(&rt, &words, (&[call], &[], &[]), (8, b"", READ_FAILED)),
+            "{call}"
+        );
     }
     assert!(rt; ends_on_many(&rt, &words, (&[13], &[], &[]), (0, b"", "")));
 }

@@ -45,7 +45,11 @@ fn main(rt: HostRuntime) -> ExitCode {
     } else {
         match BufWriter::with_capacity(rt.alloc(), PIECE_BYTES, stdout) {
             Ok(gathered) => answer(&rt, &words, stdin, gathered, &mut err),
-            Err(_) => refuse(rt.alloc(), Refusal::Query(QueryFault::OutOfMemory), &mut err),
+            Err(_) => refuse(
+                rt.alloc(),
+                Refusal::Query(QueryFault::OutOfMemory),
+                &mut err,
+            ),
         }
     };
     ExitCode::from(status)
@@ -62,7 +66,16 @@ fn answer<R: Threads + Sync + rt::Files + AllocGlobal, W: Write + Drop>(
 ) -> u8 {
     let mut files = HostFiles::new(rt, rt.alloc());
     let mut out = HostOut::new(stdout);
-    let status = snel(rt, rt.alloc(), words, &mut files, &mut stdin, &mut out, err, &OpenGate);
+    let status = snel(
+        rt,
+        rt.alloc(),
+        words,
+        &mut files,
+        &mut stdin,
+        &mut out,
+        err,
+        &OpenGate,
+    );
     match out.end() {
         Err(_) if status == 0 => refuse(rt.alloc(), Refusal::Query(QueryFault::WriteFault), err),
         _ => status,

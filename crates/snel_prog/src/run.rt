@@ -80,12 +80,7 @@ pub fn snel<R: Threads + Sync, F: Files, I: Input + Send, O: Out, E: Out, G: Gat
 }
 
 // Does what is asked, and answers how it came out.
-fn obey<F: Files, O: Out>(
-    alloc: Global,
-    ask: &Ask<'_>,
-    files: &mut F,
-    out: &mut O,
-) -> Outcome
+fn obey<F: Files, O: Out>(alloc: Global, ask: &Ask<'_>, files: &mut F, out: &mut O) -> Outcome
     requires { HasNames (ask_view ask.now) }
     ensures headline { Headline (ask_view ask.now) (F.told files.old) (status_after result)
         (O.holds out.old) (O.holds out.new) }

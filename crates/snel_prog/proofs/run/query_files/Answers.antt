@@ -15,9 +15,11 @@ returns-in-Ok-clause-stopped g c = stops_not _ _ _ _ _ _ _ 0 (λ e. omega (arith
 
 pub returns-in-Ok-clause-cause : goal.returns-in-Ok-clause-cause
 returns-in-Ok-clause-cause g c =
-    let told = g.F.Files.told c.args.files.now in
-    (c.in-Ok.ensures.cause, subst (λ (d : Done). TellsCounts c.args.settings.stats c.args.sql.now c.args.names.now told d) (sym c.done_of.ensures)
-    (tells_counts c.args.settings.stats c.args.sql.now c.args.names.now told c.in-Ok.sum c.in-Ok.ensures.sum))
+    let told = g.F.Files.told c.args.files.now in (
+      c.in-Ok.ensures.cause,
+      subst (λ (d : Done). TellsCounts c.args.settings.stats c.args.sql.now c.args.names.now told d) (sym c.done_of.ensures)
+          (tells_counts c.args.settings.stats c.args.sql.now c.args.names.now told c.in-Ok.sum c.in-Ok.ensures.sum),
+    )
 
 pub returns-in-Ok-clause-absent : goal.returns-in-Ok-clause-absent
 returns-in-Ok-clause-absent g c e = absurd (omega (arith, e))

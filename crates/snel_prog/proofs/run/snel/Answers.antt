@@ -19,58 +19,58 @@ use Rattle.snel_prog.proofs.Memory as memory
 use Rattle.snel_prog.proofs.Comes.{comes}
 use Rattle.snel_prog.proofs.run.snel.Goals as goal
 
-pub obey-requires : goal.obey-requires
-obey-requires g c = subst HasNames (sym c.in-Ok.ensures) (asked_has_names c.args.words.now)
+pub obey-outcome-requires : goal.obey-outcome-requires
+obey-outcome-requires g c = subst HasNames (sym c.in-Ok.ensures) (asked_has_names c.args.words.now)
 
 pub returns-in-Ok-clause-headline : goal.returns-in-Ok-clause-headline
 returns-in-Ok-clause-headline g c =
     let told = g.F.Files.told c.args.files.now in
     let old = g.O.Out.holds c.args.out.now in
-    let new = g.O.Out.holds c.obey.new.out in
+    let new = g.O.Out.holds c.obey-outcome.new.out in
     moved (λ (a : Ask) (n : ℕ). Headline a told n old new)
-    (ask_view c.in-Ok.ask) (asked c.args.words.now) (status_after c.obey.result) c.end.result c.in-Ok.ensures c.end.ensures.status c.obey.ensures.headline
+    (ask_view c.in-Ok.ask) (asked c.args.words.now) (status_after c.obey-outcome.result) c.end.result c.in-Ok.ensures c.end.ensures.status c.obey-outcome.ensures.headline
 
 pub returns-in-Ok-clause-ends : goal.returns-in-Ok-clause-ends
 returns-in-Ok-clause-ends g c =
     let told = g.F.Files.told c.args.files.now in
     let old = g.O.Out.holds c.args.out.now in
-    let new = g.O.Out.holds c.obey.new.out in
+    let new = g.O.Out.holds c.obey-outcome.new.out in
     moved (λ (a : Ask) (n : ℕ). Ends a told n old new)
-    (ask_view c.in-Ok.ask) (asked c.args.words.now) (status_after c.obey.result) c.end.result c.in-Ok.ensures c.end.ensures.status c.obey.ensures.ends
+    (ask_view c.in-Ok.ask) (asked c.args.words.now) (status_after c.obey-outcome.result) c.end.result c.in-Ok.ensures c.end.ensures.status c.obey-outcome.ensures.ends
 
 pub returns-in-Ok-clause-stopped : goal.returns-in-Ok-clause-stopped
 returns-in-Ok-clause-stopped g c =
     let told = g.F.Files.told c.args.files.now in
     let old = g.O.Out.holds c.args.out.now in
-    let new = g.O.Out.holds c.obey.new.out in
-    moved (λ (a : Ask) (n : ℕ). Stops a told n (g.F.Files.taken c.args.files.now) (g.F.Files.taken c.obey.new.files) old new)
-    (ask_view c.in-Ok.ask) (asked c.args.words.now) (status_after c.obey.result) c.end.result c.in-Ok.ensures c.end.ensures.status c.obey.ensures.stopped
+    let new = g.O.Out.holds c.obey-outcome.new.out in
+    moved (λ (a : Ask) (n : ℕ). Stops a told n (g.F.Files.taken c.args.files.now) (g.F.Files.taken c.obey-outcome.new.files) old new)
+    (ask_view c.in-Ok.ask) (asked c.args.words.now) (status_after c.obey-outcome.result) c.end.result c.in-Ok.ensures c.end.ensures.status c.obey-outcome.ensures.stopped
 
 pub returns-in-Ok-clause-cause : goal.returns-in-Ok-clause-cause
 returns-in-Ok-clause-cause g c =
     record {
-      outcome = c.obey.result;
+      outcome = c.obey-outcome.result;
       is = c.end.ensures.status;
-      says = subst (λ (a : Ask). Says a (g.F.Files.told c.args.files.now) c.obey.result) c.in-Ok.ensures c.obey.ensures.cause;
+      says = subst (λ (a : Ask). Says a (g.F.Files.told c.args.files.now) c.obey-outcome.result) c.in-Ok.ensures c.obey-outcome.ensures.cause;
       line = subst (λ (a : Ask). ¬ Rose (g.E.Out.faults c.args.err.now) (g.E.Out.faults c.end.new.err)
-      → Appends (g.E.Out.holds c.args.err.now) (g.E.Out.holds c.end.new.err) (line_of (names_of a) c.obey.result)) c.in-Ok.ensures c.end.ensures.line;
+          → Appends (g.E.Out.holds c.args.err.now) (g.E.Out.holds c.end.new.err) (line_of (names_of a) c.obey-outcome.result)) c.in-Ok.ensures c.end.ensures.line;
     }
 
 pub returns-in-Ok-clause-absent : goal.returns-in-Ok-clause-absent
 returns-in-Ok-clause-absent g c e =
-    c.obey.ensures.absent (sym c.end.ensures.status ∙ e)
+    c.obey-outcome.ensures.absent (sym c.end.ensures.status ∙ e)
 
 pub returns-in-Ok-clause-read_fault : goal.returns-in-Ok-clause-read_fault
 returns-in-Ok-clause-read_fault g c e =
-    c.obey.ensures.read_fault (sym c.end.ensures.status ∙ e)
+    c.obey-outcome.ensures.read_fault (sym c.end.ensures.status ∙ e)
 
 pub returns-in-Ok-clause-write_fault : goal.returns-in-Ok-clause-write_fault
 returns-in-Ok-clause-write_fault g c e =
-    c.obey.ensures.write_fault (sym c.end.ensures.status ∙ e)
+    c.obey-outcome.ensures.write_fault (sym c.end.ensures.status ∙ e)
 
 pub returns-in-Ok-clause-taken : goal.returns-in-Ok-clause-taken
 returns-in-Ok-clause-taken g c =
-    subst (λ (a : Ask). ReadsBytes a (g.F.Files.told c.args.files.now) (g.F.Files.taken c.args.files.now) (g.F.Files.taken c.obey.new.files)) c.in-Ok.ensures c.obey.ensures.taken
+    subst (λ (a : Ask). ReadsBytes a (g.F.Files.told c.args.files.now) (g.F.Files.taken c.args.files.now) (g.F.Files.taken c.obey-outcome.new.files)) c.in-Ok.ensures c.obey-outcome.ensures.taken
 
 pub returns-in-Ok-clause-comes : goal.returns-in-Ok-clause-comes
 returns-in-Ok-clause-comes g c =
@@ -79,36 +79,36 @@ returns-in-Ok-clause-comes g c =
 
 pub returns-in-Err-clause-headline : goal.returns-in-Err-clause-headline
 returns-in-Err-clause-headline g c =
-    subst (λ (n : ℕ). Headline (asked c.args.words.now) (g.F.Files.told c.args.files.now) n (g.O.Out.holds c.args.out.now) (g.O.Out.holds c.args.out.now)) (sym c.end-2.ensures.status) (memory.headline (asked c.args.words.now) (g.F.Files.told c.args.files.now) (g.O.Out.holds c.args.out.now))
+    subst (λ (n : ℕ). Headline (asked c.args.words.now) (g.F.Files.told c.args.files.now) n (g.O.Out.holds c.args.out.now) (g.O.Out.holds c.args.out.now)) (sym c.end-in-Err.ensures.status) (memory.headline (asked c.args.words.now) (g.F.Files.told c.args.files.now) (g.O.Out.holds c.args.out.now))
 
 pub returns-in-Err-clause-ends : goal.returns-in-Err-clause-ends
 returns-in-Err-clause-ends g c =
-    subst (λ (n : ℕ). Ends (asked c.args.words.now) (g.F.Files.told c.args.files.now) n (g.O.Out.holds c.args.out.now) (g.O.Out.holds c.args.out.now)) (sym c.end-2.ensures.status) (memory.ends (asked c.args.words.now) (g.F.Files.told c.args.files.now) (g.O.Out.holds c.args.out.now))
+    subst (λ (n : ℕ). Ends (asked c.args.words.now) (g.F.Files.told c.args.files.now) n (g.O.Out.holds c.args.out.now) (g.O.Out.holds c.args.out.now)) (sym c.end-in-Err.ensures.status) (memory.ends (asked c.args.words.now) (g.F.Files.told c.args.files.now) (g.O.Out.holds c.args.out.now))
 
 pub returns-in-Err-clause-stopped : goal.returns-in-Err-clause-stopped
 returns-in-Err-clause-stopped g c =
-    subst (λ (n : ℕ). Stops (asked c.args.words.now) (g.F.Files.told c.args.files.now) n (g.F.Files.taken c.args.files.now) (g.F.Files.taken c.args.files.now) (g.O.Out.holds c.args.out.now) (g.O.Out.holds c.args.out.now)) (sym c.end-2.ensures.status) (memory.stops (asked c.args.words.now) (g.F.Files.told c.args.files.now) (g.F.Files.taken c.args.files.now) (g.F.Files.taken c.args.files.now) (g.O.Out.holds c.args.out.now) (g.O.Out.holds c.args.out.now))
+    subst (λ (n : ℕ). Stops (asked c.args.words.now) (g.F.Files.told c.args.files.now) n (g.F.Files.taken c.args.files.now) (g.F.Files.taken c.args.files.now) (g.O.Out.holds c.args.out.now) (g.O.Out.holds c.args.out.now)) (sym c.end-in-Err.ensures.status) (memory.stops (asked c.args.words.now) (g.F.Files.told c.args.files.now) (g.F.Files.taken c.args.files.now) (g.F.Files.taken c.args.files.now) (g.O.Out.holds c.args.out.now) (g.O.Out.holds c.args.out.now))
 
 pub returns-in-Err-clause-cause : goal.returns-in-Err-clause-cause
 returns-in-Err-clause-cause g c =
     record {
       outcome = Err (Query OutOfMemory);
-      is = c.end-2.ensures.status;
+      is = c.end-in-Err.ensures.status;
       says = memory.says (asked c.args.words.now) (g.F.Files.told c.args.files.now);
-      line = c.end-2.ensures.line;
+      line = c.end-in-Err.ensures.line;
     }
 
 pub returns-in-Err-clause-absent : goal.returns-in-Err-clause-absent
 returns-in-Err-clause-absent g c e =
-    absurd (omega (arith, e, c.end-2.ensures.status))
+    absurd (omega (arith, e, c.end-in-Err.ensures.status))
 
 pub returns-in-Err-clause-read_fault : goal.returns-in-Err-clause-read_fault
 returns-in-Err-clause-read_fault g c e =
-    absurd (omega (arith, e, c.end-2.ensures.status))
+    absurd (omega (arith, e, c.end-in-Err.ensures.status))
 
 pub returns-in-Err-clause-write_fault : goal.returns-in-Err-clause-write_fault
 returns-in-Err-clause-write_fault g c e =
-    absurd (omega (arith, e, c.end-2.ensures.status))
+    absurd (omega (arith, e, c.end-in-Err.ensures.status))
 
 pub returns-in-Err-clause-taken : goal.returns-in-Err-clause-taken
 returns-in-Err-clause-taken g c =
@@ -116,18 +116,17 @@ returns-in-Err-clause-taken g c =
 
 pub returns-in-Err-clause-comes : goal.returns-in-Err-clause-comes
 returns-in-Err-clause-comes g c =
-    comes (asked c.args.words.now) (g.F.Files.told c.args.files.now) c.end-2.result _ _ _ _ _ _ _ _ _ _
+    comes (asked c.args.words.now) (g.F.Files.told c.args.files.now) c.end-in-Err.result _ _ _ _ _ _ _ _ _ _
     (returns-in-Err-clause-ends g c) (returns-in-Err-clause-cause g c) (returns-in-Err-clause-read_fault g c) (returns-in-Err-clause-write_fault g c)
-
 
 pub returns-in-Ok-clause-quiet : goal.returns-in-Ok-clause-quiet
 returns-in-Ok-clause-quiet g c =
     let old = g.O.Out.holds c.args.out.now in
-    let new = g.O.Out.holds c.obey.new.out in
+    let new = g.O.Out.holds c.obey-outcome.new.out in
     moved (λ (a : Ask) (n : ℕ). StaysQuiet a n old new)
-    (ask_view c.in-Ok.ask) (asked c.args.words.now) (status_after c.obey.result) c.end.result c.in-Ok.ensures c.end.ensures.status c.obey.ensures.quiet
+    (ask_view c.in-Ok.ask) (asked c.args.words.now) (status_after c.obey-outcome.result) c.end.result c.in-Ok.ensures c.end.ensures.status c.obey-outcome.ensures.quiet
 
 pub returns-in-Err-clause-quiet : goal.returns-in-Err-clause-quiet
 returns-in-Err-clause-quiet g c =
-    subst (λ (n : ℕ). StaysQuiet (asked c.args.words.now) n (g.O.Out.holds c.args.out.now) (g.O.Out.holds c.args.out.now)) (sym c.end-2.ensures.status)
+    subst (λ (n : ℕ). StaysQuiet (asked c.args.words.now) n (g.O.Out.holds c.args.out.now) (g.O.Out.holds c.args.out.now)) (sym c.end-in-Err.ensures.status)
     (memory.quiet (asked c.args.words.now) (g.O.Out.holds c.args.out.now))
