@@ -1,0 +1,4 @@
+pub mod Texts
+pub mod Progress
+pub mod Rounds
+pub mod Puts
