@@ -2,3 +2,4 @@ pub mod Texts
 pub mod Progress
 pub mod Rounds
 pub mod Puts
+pub mod Named

@@ -178,3 +178,7 @@ module _ (told : Option Contents) (q : Query) (plain : is_plain q ≡ true) (nam
 
       pub put_some : (new : Option (List ℕ)) → TakesPart now new (text_of (let_through skip most more)) → TakesSome old new
       put_some new h = (text_of (let_through q.skip q.take u.lines) ++ h.added, took_part new h)
+
+-- a scan with the same query
+pub same_scans : (told : Option Contents) (q p : Query) (blocks : Contents → List Block) (more : List (List ℕ)) (c d k l : ℕ) → p ≡ q → ForSome told (λ files. Scans p (blocks files) more c d k l) → ForSome told (λ files. Scans q (blocks files) more c d k l)
+same_scans told q p blocks more c d k l same h = λ files is. subst (λ (x : Query). Scans x (blocks files) more c d k l) same (h files is)

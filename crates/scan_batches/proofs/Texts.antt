@@ -61,9 +61,7 @@ made_long q rows lines is = ap (λ (l : List (List ℕ)). length l) is ∙ lengt
 
 -- a sink that took two texts took both
 pub Appends-both : (a b c : Option (List ℕ)) (x y : List ℕ) → Appends a b x → Appends b c y → Appends a c (x ++ y)
-Appends-both None None None x y h k = tt
-Appends-both None None (Some l) x y h k = absurd k
-Appends-both None (Some m) c x y h k = absurd h
+Appends-both None b c x y h k = tt
 Appends-both (Some k) None c x y h l = absurd h
 Appends-both (Some k) (Some m) None x y h l = absurd l
 Appends-both (Some k) (Some m) (Some n) x y h l = l ∙ ap (λ (z : List ℕ). z ++ y) h ∙ append_assoc k x y

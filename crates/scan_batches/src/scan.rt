@@ -40,9 +40,9 @@ pub fn scan_all<S: BatchScanner, F: Files, O: Out>(
 ) -> Result<Done, ScanFault>
     requires few { length places.now ≤ 2 ^ 26 }
     requires named { All (λ p. p.file < length names.now) places.now }
-    requires indexed { All (λ p. p.file < length fields.now) places.now }
     requires placed { ForSome (F.told files.old)
         (λ told. All (λ p. IsPlaced told names.now p) places.now) }
+    requires ready { S.is_ready scanner.old }
     requires plain { is_plain (S.query scanner.old) ≡ true }
     requires skip { cut.now.skip ≡ (S.query scanner.old).skip }
     requires take { cut.now.take ≡ (S.query scanner.old).take }
@@ -103,8 +103,8 @@ fn next_batch<S: BatchScanner, F: Files>(
     places: &[Place],
     files: &mut F,
 ) -> Result<(), ScanFault>
+    requires ready { S.is_ready scanner.old }
     requires named { All (λ p. p.file < length names.now) places.now }
-    requires indexed { All (λ p. p.file < length fields.now) places.now }
     requires placed { ForSome (F.told files.old)
         (λ told. All (λ p. IsPlaced told names.now p) places.now) }
     ensures scanned { OnOk result (ForSome (F.told files.old) (λ told. Scans (S.query scanner.old)
@@ -114,6 +114,7 @@ fn next_batch<S: BatchScanner, F: Files>(
         (λ b. first_bad (blocks_at told names.now fields.now places.now) ≡ Some b))) }
     ensures reading { IfErr result (λ fault. IsReading fault) }
     ensures same { S.query scanner.new ≡ S.query scanner.old }
+    ensures still_ready { S.is_ready scanner.new }
     ensures fault { HasCause (F.read_faults files.old) (F.read_faults files.new)
         (IsErrOf result ScanFault.ReadFault) }
     ensures later { F.taken files.old ≤ F.taken files.new }

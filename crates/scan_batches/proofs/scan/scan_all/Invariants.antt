@@ -13,5 +13,6 @@ invariant-loop-number g l = record {
   put_faults : g.O.Out.faults l.fn.out ≤ g.O.Out.faults l.out;
   most : g.F.Files.taken l.files ≤ g.F.Files.taken l.fn.files + room_of (take (64 * l.number) l.places);
   same_query : g.S.BatchScanner.query l.scanner ≡ g.S.BatchScanner.query l.fn.scanner;
+  ready : g.S.BatchScanner.is_ready l.scanner;
   underway : Underway (g.F.Files.told l.fn.files) (g.S.BatchScanner.query l.fn.scanner) l.names l.fields l.places l.number l.left.skip l.left.take l.lines (g.S.BatchScanner.chunks l.scanner) (g.S.BatchScanner.kept l.scanner) (g.O.Out.holds l.fn.out) (g.O.Out.holds l.out);
 }
