@@ -1,5 +1,5 @@
 //! Tests and scans blocks one after the other.
-ghost use Rattle.std.specs.Prelude.{◌≡◌, ◌<◌, [], true, All, length, OnOk, IfOk, IfErr};
+ghost use Rattle.std.specs.Prelude.{◌≡◌, [], true, OnOk, IfOk, IfErr};
 ghost use Rattle.tree_meaning.specs.Tree.{Query as QueryTree};
 ghost use Rattle.program_meaning.specs.Simulation.{Simulates};
 ghost use Rattle.block_lines.specs.HeadTexts.{AreHeads};
@@ -27,7 +27,6 @@ pub(crate) fn scan_blocks<'b>(
     ran: &mut Tally,
 ) -> Result<(), BatchFault>
     requires heads { AreHeads job.now.ends.outs heads.now }
-    requires indexed { All (λ b. b.place.file < length fields.now) blocks.now }
     requires empty { lines.old ≡ [] }
     ensures scanned { (q : QueryTree) → Simulates job.now q → is_plain q ≡ true
         → OnOk result (Scans q (blocks_held fields.now blocks.now) lines.new ran.old.chunks
@@ -59,7 +58,6 @@ fn scan_one<'b>(
     lines: &mut Lines,
 ) -> Result<bool, OutOfMemory>
     requires heads { AreHeads frame.old.job.ends.outs heads.now }
-    requires indexed { block.now.place.file < length fields.now }
     ensures added { (q : QueryTree) → Simulates frame.old.job q → is_plain q ≡ true → IfOk result
         (λ good. AddsOf q block.now.place.entry.rows (good_rows (block_held fields.now block.now))
         good lines.old lines.new frame.old.chunks frame.new.chunks frame.old.kept frame.new.kept) }
@@ -69,9 +67,7 @@ fn scan_one<'b>(
 {
     let place = block.place;
     let entry = place.entry;
-    let Some(field) = fields.get(place.file as usize) else {
-        unreachable!()
-    };
+    let field = fields.get(place.file as usize).unwrap_or("");
     match scan_block(alloc, frame, heads, &block.bytes, &entry, field, lines) {
         Ok(()) => Ok(true),
         Err(ScanFault::OutOfMemory) => Err(OutOfMemory),

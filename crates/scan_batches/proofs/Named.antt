@@ -23,8 +23,11 @@ within [] k x at = absurd (cc)
 within (y ∷ ys) zero x at = omega arith
 within (y ∷ ys) (suc k) x at = let h = within ys k x at in omega arith
 
+fault_is : {T : Type 0} (f g : ScanFault) → IsErrOf {T = T} {E = ScanFault} (Err f) g → f ≡ g
+fault_is f g e = cc
+
 module _ (fields : List (List ℕ)) (hs seen : List Held) (lent : seen ≡ hs) (k : ℕ) (says : SaysOfBatch (blocks_held fields seen) (Bad k)) where
-  found : (h : Held) × (slice_get seen k ≡ Some h) × (says.0 ≡ block_held fields h)
+  pub found : (h : Held) × (slice_get seen k ≡ Some h) × (says.0 ≡ block_held fields h)
   found = held_at fields seen k says.0 says.1
 
   pub is_within : (again : List Held) → again ≡ hs → k < length again
@@ -38,7 +41,7 @@ module _ (fields : List (List ℕ)) (hs seen : List Held) (lent : seen ≡ hs) (
     reading = subst (λ (f : ScanFault). IsReading f) (sym is_damaged) tt
 
     pub no_read_fault : {T : Type 0} (before now : ℕ) → before ≤ now → HasCause before now (IsErrOf {T = T} {E = ScanFault} (Err fault) ReadFault)
-    no_read_fault before now le = record { later = le; rose = λ e. absurd (other (sym is_damaged ∙ e)) }
+    no_read_fault before now le = record { later = le; rose = λ e. absurd (other (sym is_damaged ∙ fault_is fault ReadFault e)) }
       where
         other : Damaged (found.0).place.file (found.0).place.block ≡ ReadFault → ⊥
         other e = cc

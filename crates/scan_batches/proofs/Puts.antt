@@ -39,8 +39,8 @@ module _ (old now new : Option (List ℕ)) (from at : ℕ) (lines : List (List �
   put_one took =
       let e : at + 1 - from ≡ suc (at - from) = omega arith in
       let text : text_of (between from (at + 1) lines) ≡ text_of (between from at lines) ++ line =
-          ap (λ (n : ℕ). text_of (take n (drop from lines))) e ∙ ap (λ (l : List (List ℕ)). text_of l) (take_one (drop from lines) (at - from) line here)
-          ∙ text-append (between from at lines) (line ∷ []) ∙ ap (λ (l : List ℕ). text_of (between from at lines) ++ l) (append-nil line) in
+      ap (λ (n : ℕ). text_of (take n (drop from lines))) e ∙ ap (λ (l : List (List ℕ)). text_of l) (take_one (drop from lines) (at - from) line here)
+      ∙ text-append (between from at lines) (line ∷ []) ∙ ap (λ (l : List ℕ). text_of (between from at lines) ++ l) (append-nil line) in
       subst (λ (l : List ℕ). Appends old new l) (sym text) (Appends-both old now new (text_of (between from at lines)) line so_far took)
 
   pub put_cut : (to n : ℕ) (through : List (List ℕ)) → at < to → between from to lines ≡ through → Appends now new (take n line) → TakesPart old new (text_of through)

@@ -1,6 +1,7 @@
-use Rattle.std.proofs.Common.{◌≡◌, ◌+◌, ◌*◌, ◌<◌, ◌≤◌, ℕ, length, refl, sym, ◌∙◌, subst, arith}
+use Rattle.std.proofs.Common.{◌≡◌, ◌+◌, ◌-◌, ◌*◌, ap, ◌<◌, ◌≤◌, ℕ, length, refl, sym, ◌∙◌, subst, arith}
 use Rattle.std.specs.Prelude.{◌≢◌, Some}
 use Rattle.tree_meaning.specs.Tree.{Query}
+use Rattle.scan_batches.specs.Lines.{left_of}
 use Rattle.scan_meaning.specs.Blocks.{Place}
 use Rattle.scan_files.specs.Places.{IsPlaced, blocks_at}
 use Rattle.scan_files.proofs.Parts.{All_part, room_more}
@@ -85,7 +86,7 @@ loop-number-preserved g c =
       underway = put_more _ (g.S.BatchScanner.query c.args.scanner.now) c.requires.plain c.args.names.now c.args.fields.now c.args.places.now c.loop-number.number _ _ _ _ _ _ _ c.loop-number.invariant.underway
           c.batch_of-batch.result.now c.batch_of-batch.ensures (c.is_full.ensures.open c.if-is_full.false)
           (g.S.BatchScanner.lines c.next_batch.new.scanner) _ _ _ c.loop-number.invariant.told (same_scans _ _ _ (λ files. blocks_at files c.args.names.now c.args.fields.now c.batch_of-batch.result.now) _ _ _ _ _ c.loop-number.invariant.same_query c.in-Ok.ensures.scanned)
-          _ c.in-Ok-put_lines.count _ _ _ c.in-Ok-put_lines.ensures.put c.in-Ok-put_lines.ensures.count refl c.rest_of-left.ensures.skip c.rest_of-left.ensures.take;
+          _ c.in-Ok-put_lines.count _ _ _ c.in-Ok-put_lines.ensures.put c.in-Ok-put_lines.ensures.count c.saturating_add-lines.ensures (c.rest_of-left.ensures.skip ∙ ap (λ (n : ℕ). c.loop-number.left.skip - n) c.count.ensures) (c.rest_of-left.ensures.take ∙ ap (λ (n : ℕ). left_of c.loop-number.left.take (n - c.loop-number.left.skip)) c.count.ensures);
     }
 
 pub returns-clause-outcome : goal.returns-clause-outcome
