@@ -1,0 +1,5 @@
+mod Keys
+mod Rows
+mod Heaps
+mod Sorting
+mod Standing

@@ -1,0 +1,4 @@
+pub mod Arranged
+pub mod Padded
+pub mod Heaps
+pub mod Top

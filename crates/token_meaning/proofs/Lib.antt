@@ -1,0 +1,5 @@
+pub mod Runs
+pub mod Quotes
+pub mod Begun
+pub mod Cuts
+pub mod Tokens
