@@ -1,5 +1,5 @@
 -- Blocks that are scanned one after the other.
-use Rattle.std.proofs.Common.{◌≡◌, ℕ, zero, suc, ◌+◌, ◌/◌, ◌<◌, ◌≤◌, Bool, true, false, cond, List, [], ◌∷◌, ◌++◌, length, take, drop, map, Option, Some, None, refl, sym, ap, ◌∙◌, subst, arith, add-one, take-append-drop}
+use Rattle.std.proofs.Common.{◌≡◌, ℕ, zero, suc, ◌+◌, ◌/◌, ◌<◌, ◌≤◌, Bool, true, false, cond, List, [], ◌∷◌, ◌++◌, length, take, drop, map, Option, Some, None, refl, sym, ap, ◌∙◌, subst, arith, add-one, take-append-drop, get_or}
 use Rattle.std.specs.Prelude.{slice_get, find, is_none, unwrap_or, sum_by}
 use Rattle.std.proofs.lemmas.List.{append-nil, take_all, map-append, length-append}
 use Rattle.std.proofs.lemmas.List.Sums.{sum_by-append, sum_by-cons}
@@ -17,6 +17,7 @@ use Rattle.scan_meaning.proofs.Batches.{rows-append, find_behind, find_before}
 use Rattle.scan_meaning.proofs.Plain.{made-append, passed-append}
 use Rattle.scan_files.specs.Places.{Held, block_held, blocks_held}
 use Rattle.scan_batches.specs.Lines.{made_lines}
+use Rattle.scan_batches.proofs.Progress.{makes_nothing}
 use Rattle.scan_batches.specs.Scans.{Scans, chunks_of, SaysOfBatch}
 use Rattle.scan_batches.specs.declared.fault.BatchFault.TheVariants.{Bad}
 use Rattle.batch_lines.specs.Ready.{AddsRows, AddsOf, IsTested}
@@ -114,3 +115,16 @@ scans_after q fields hs k lines c m a b x y le s is js =
   where
     after_none : (p n : ℕ) → raised p (raised 0 n) ≡ raised p n
     after_none p n = omega arith
+
+-- the block that was looked at
+pub at_is : (hs : List Held) (i : ℕ) (d h : Held) → i < length hs → h ≡ get_or hs i d → slice_get hs i ≡ Some h
+at_is [] i d h lt is = absurd (omega arith)
+at_is (x ∷ xs) zero d h lt is = let same : h ≡ x = is in cc
+at_is (x ∷ xs) (suc i) d h lt is = at_is xs i d h (omega arith) is
+
+-- before the first block
+pub starts : (q : Query) → is_plain q ≡ true → (lines : List (List ℕ)) (c k : ℕ) → lines ≡ [] → c ≡ 0 → k ≡ 0 → Scans q [] lines 0 c 0 k
+starts q plain lines c k none no_chunks no_rows = record { good = refl; lines_are = none ∙ sym (makes_nothing q plain); chunks_are = no_chunks ∙ zero_raised; kept_are = no_rows ∙ zero_raised }
+  where
+    zero_raised : 0 ≡ raised 0 0
+    zero_raised = omega arith

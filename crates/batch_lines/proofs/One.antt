@@ -4,7 +4,19 @@ use Rattle.std.specs.Option.{option_and_then}
 use Rattle.value_meaning.specs.Val.{Val}
 use Rattle.block_meaning.specs.Blocks.{IsDamaged}
 use Rattle.range_meaning.specs.Excluded.{IsSoundEntry}
-use Rattle.block_lines.specs.GoodBlocks.{IsGoodBlock, BreaksRange}
+use Rattle.block_lines.specs.GoodBlocks.{IsGoodBlock, HasGoodRows, BreaksRange}
+use Rattle.std.specs.Prelude.{◌+◌, ◌/◌, ◌++◌}
+use Rattle.snel_device.specs.Causes.{raised}
+use Rattle.file_meaning.specs.Files.{Entry}
+use Rattle.tree_meaning.specs.Tree.{Query}
+use Rattle.check_meaning.specs.Aggregates.{is_grouped}
+use Rattle.eval_meaning.specs.Passed.{passed}
+use Rattle.program_meaning.specs.Jobs.{Job}
+use Rattle.program_meaning.specs.Simulation.{Simulates}
+use Rattle.scan_meaning.specs.Batches.{is_plain}
+use Rattle.scan_meaning.proofs.Plain.{ungrouped}
+use Rattle.scan_batches.specs.Lines.{made_lines}
+use Rattle.batch_lines.specs.Ready.{AddsOf, IsTested}
 use Rattle.scan_meaning.specs.Blocks.{Block, stored_rows, is_sound, good_rows}
 use Rattle.scan_meaning.proofs.Exact.{rows_exact, damaged_exact, ranges_exact}
 
@@ -27,3 +39,42 @@ module _ (b : Block) where
       on : (t : Bool) → is_sound b.field b.place.entry h.rows ≡ t → t ≡ false
       on true is = absurd (h.unsound ((ranges_exact b.field b.place.entry h.rows).0 is))
       on false is = refl
+
+-- what a scan of the block says
+module _ (b : Block) (field bytes : List ℕ) (entry : Entry) (f : field ≡ b.field) (e : entry ≡ b.place.entry) (y : bytes ≡ b.bytes) where
+  same_good : (rows : List Val) → IsGoodBlock field entry bytes rows → IsGoodBlock b.field b.place.entry b.bytes rows
+  same_good rows g =
+      subst (λ (l : List ℕ). IsGoodBlock b.field b.place.entry l rows) y
+      (subst (λ (x : Entry). IsGoodBlock b.field x bytes rows) e (subst (λ (l : List ℕ). IsGoodBlock l entry bytes rows) f g))
+
+  pub tested_good : HasGoodRows field entry bytes → IsTested (good_rows b) true
+  tested_good h = subst (λ (o : Option (List Val)). IsTested o true) (sym (is_good b h.0 (same_good h.0 h.1))) tt
+
+  pub added_good : (q : Query) → is_plain q ≡ true → (job : Job) → Simulates job q → (old new : List (List ℕ)) (c d k l : ℕ) → HasGoodRows field entry bytes
+      → ((rows : List Val) (p : Query) → IsGoodBlock field entry bytes rows → Simulates job p → is_grouped p ≡ false → new ≡ old ++ made_lines p rows)
+      → ((rows : List Val) → IsGoodBlock field entry bytes rows → d ≡ raised c ((length rows + 15) / 16))
+      → ((rows : List Val) (p : Query) → IsGoodBlock field entry bytes rows → Simulates job p → l ≡ raised k (length (passed p rows)))
+      → AddsOf q b.place.entry.rows (good_rows b) true old new c d k l
+  added_good q plain job sim old new c d k l h lines chunks kept =
+      let count : length h.0 ≡ b.place.entry.rows = h.1.count ∙ ap (λ (x : Entry). x.rows) e in
+      subst (λ (o : Option (List Val)). AddsOf q b.place.entry.rows o true old new c d k l) (sym (is_good b h.0 (same_good h.0 h.1)))
+      record {
+        lines = lines h.0 q h.1 sim (ungrouped q plain);
+        chunks_are = chunks h.0 h.1 ∙ ap (λ (n : ℕ). raised c ((n + 15) / 16)) count;
+        kept_are = kept h.0 q h.1 sim;
+      }
+
+  pub none_damaged : IsDamaged entry.rows bytes → good_rows b ≡ None
+  none_damaged h = is_damaged b (subst (λ (l : List ℕ). IsDamaged b.place.entry.rows l) y (subst (λ (x : Entry). IsDamaged x.rows bytes) e h))
+
+  pub none_out : BreaksRange field entry bytes → good_rows b ≡ None
+  none_out h = is_out b
+      (subst (λ (l : List ℕ). BreaksRange b.field b.place.entry l) y
+      (subst (λ (x : Entry). BreaksRange b.field x bytes) e (subst (λ (l : List ℕ). BreaksRange l entry bytes) f h)))
+
+-- a bad block adds nothing
+pub tested_bad : (o : Option (List Val)) → o ≡ None → IsTested o false
+tested_bad o is = subst (λ (x : Option (List Val)). IsTested x false) (sym is) tt
+
+pub added_bad : (q : Query) (n : ℕ) (o : Option (List Val)) (old new : List (List ℕ)) (c d k l : ℕ) → o ≡ None → AddsOf q n o false old new c d k l
+added_bad q n o old new c d k l is = subst (λ (x : Option (List Val)). AddsOf q n x false old new c d k l) (sym is) tt

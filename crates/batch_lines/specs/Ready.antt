@@ -15,7 +15,7 @@ use Rattle.scan_batches.specs.Lines.{made_lines}
 pub record IsReady (q : Query) (job : Job) (heads : LineHeads) : Type 0 where
   pub simulates : Simulates job q
   pub plain : is_plain q ≡ true
-  pub heads : AreHeads job.ends.outs heads
+  pub before_values : AreHeads job.ends.outs heads
 
 -- the lines of a good block's rows were added, its chunks and the rows that passed counted; or the block is bad
 pub record AddsRows (q : Query) (count : ℕ) (rows : List Val) (old new : List (List ℕ)) (chunks now_chunks kept now_kept : ℕ) : Type 0 where

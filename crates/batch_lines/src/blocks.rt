@@ -5,7 +5,7 @@ ghost use Rattle.program_meaning.specs.Simulation.{Simulates};
 ghost use Rattle.block_lines.specs.HeadTexts.{AreHeads};
 ghost use Rattle.scan_meaning.specs.Batches.{is_plain};
 ghost use Rattle.scan_meaning.specs.Blocks.{good_rows};
-ghost use Rattle.scan_files.specs.Places.{block_held, blocks_held};
+ghost use Rattle.scan_files.specs.Places.{block_held, blocks_held, field_at};
 ghost use Rattle.scan_batches.specs.Scans.{Scans, SaysOfBatch};
 ghost use Rattle.batch_lines.specs.Ready.{AddsOf, IsTested};
 
@@ -67,10 +67,21 @@ fn scan_one<'b>(
 {
     let place = block.place;
     let entry = place.entry;
-    let field = fields.get(place.file as usize).unwrap_or("");
+    let field = field_of(fields, place.file);
     match scan_block(alloc, frame, heads, &block.bytes, &entry, field, lines) {
         Ok(()) => Ok(true),
+        Err(ScanFault::Damaged) => Ok(false),
+        Err(ScanFault::OutOfRange) => Ok(false),
         Err(ScanFault::OutOfMemory) => Err(OutOfMemory),
-        Err(_) => Ok(false),
+    }
+}
+
+// The field that the file with this number indexes, and the empty name where it indexes none.
+fn field_of(fields: &Words, file: u32) -> &str
+    ensures { result.now ≡ field_at fields.now file }
+{
+    match fields.get(file as usize) {
+        Some(field) => field,
+        None => "",
     }
 }

@@ -1,5 +1,5 @@
 //! A job as what scans batches.
-ghost use Rattle.std.specs.Prelude.{◌≡◌, [], IfOk};
+ghost use Rattle.std.specs.Prelude.{◌≡◌, true, IfOk};
 ghost use Rattle.query_tree.specs.Queries.{query_view};
 ghost use Rattle.program_meaning.specs.Simulation.{Simulates};
 ghost use Rattle.scan_meaning.specs.Batches.{is_plain};
