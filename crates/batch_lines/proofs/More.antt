@@ -91,10 +91,10 @@ module _ (fields : List (List ℕ)) (hs : List Held) (k : ℕ) (h : Held) (at : 
   bad_here t =
       let b = block_held fields h in
       let own : first_bad (blocks_held fields (take (k + 1) hs)) ≡ Some b =
-          ap (λ (l : List Block). first_bad l) next_blocks ∙ find_behind is_bad (blocks_held fields (take k hs)) (b ∷ []) so_far
-          ∙ one_bad b (is_bad_block b (good_rows b) refl t) in
+      ap (λ (l : List Block). first_bad l) next_blocks ∙ find_behind is_bad (blocks_held fields (take k hs)) (b ∷ []) so_far
+      ∙ one_bad b (is_bad_block b (good_rows b) refl t) in
       let whole : blocks_held fields (take (k + 1) hs) ++ blocks_held fields (drop (k + 1) hs) ≡ blocks_held fields hs =
-          sym (map-append (block_held fields) (take (k + 1) hs) (drop (k + 1) hs)) ∙ ap (λ (l : List Held). blocks_held fields l) (take-append-drop (k + 1) hs) in
+      sym (map-append (block_held fields) (take (k + 1) hs) (drop (k + 1) hs)) ∙ ap (λ (l : List Held). blocks_held fields l) (take-append-drop (k + 1) hs) in
       (b, held_one fields hs k h at, ap (λ (l : List Block). first_bad l) (sym whole) ∙ find_before is_bad (blocks_held fields (take (k + 1) hs)) (blocks_held fields (drop (k + 1) hs)) b own)
 
   pub scans_next : (q : Query) → is_plain q ≡ true → (lines new : List (List ℕ)) (c d m n : ℕ) → Scans q (blocks_held fields (take k hs)) lines 0 c 0 m → AddsOf q h.place.entry.rows (good_rows (block_held fields h)) true lines new c d m n → Scans q (blocks_held fields (take (k + 1) hs)) new 0 d 0 n

@@ -4,7 +4,9 @@ use Rattle.std.specs.Option.{option_and_then}
 use Rattle.value_meaning.specs.Val.{Val}
 use Rattle.block_meaning.specs.Blocks.{IsDamaged}
 use Rattle.range_meaning.specs.Excluded.{IsSoundEntry}
-use Rattle.block_lines.specs.GoodBlocks.{IsGoodBlock, HasGoodRows, BreaksRange}
+use Rattle.block_lines.specs.GoodBlocks.{IsGoodBlock, HasGoodRows, BreaksRange, SaysOfBlock}
+use Rattle.block_lines.specs.declared.fault.ScanFault.{ScanFault}
+use Rattle.block_lines.specs.declared.fault.ScanFault.TheVariants.{Damaged, OutOfRange}
 use Rattle.std.specs.Prelude.{◌+◌, ◌/◌, ◌++◌}
 use Rattle.snel_device.specs.Causes.{raised}
 use Rattle.file_meaning.specs.Files.{Entry}
@@ -71,6 +73,12 @@ module _ (b : Block) (field bytes : List ℕ) (entry : Entry) (f : field ≡ b.f
   none_out h = is_out b
       (subst (λ (l : List ℕ). BreaksRange b.field b.place.entry l) y
       (subst (λ (x : Entry). BreaksRange b.field x bytes) e (subst (λ (l : List ℕ). BreaksRange l entry bytes) f h)))
+
+  pub said_damaged : (fault : ScanFault) → fault ≡ Damaged → SaysOfBlock field entry bytes fault → good_rows b ≡ None
+  said_damaged fault is h = none_damaged (subst (λ (x : ScanFault). SaysOfBlock field entry bytes x) is h)
+
+  pub said_out : (fault : ScanFault) → fault ≡ OutOfRange → SaysOfBlock field entry bytes fault → good_rows b ≡ None
+  said_out fault is h = none_out (subst (λ (x : ScanFault). SaysOfBlock field entry bytes x) is h)
 
 -- a bad block adds nothing
 pub tested_bad : (o : Option (List Val)) → o ≡ None → IsTested o false

@@ -27,11 +27,7 @@ pub struct JobScanner<'j> {
 
 impl<'j> JobScanner<'j> {
     /// Makes what stands before the values of lines, once for all batches.
-    pub fn new(
-        alloc: Global,
-        query: &'j Query,
-        job: &'j Job,
-    ) -> Result<JobScanner<'j>, OutOfMemory>
+    pub fn new(alloc: Global, query: &'j Query, job: &'j Job) -> Result<JobScanner<'j>, OutOfMemory>
         requires simulates { Simulates job.now (query_view query.now) }
         requires plain { is_plain (query_view query.now) ≡ true }
         ensures query { IfOk result (λ s. s.query.now ≡ query.now) }

@@ -31,6 +31,6 @@ loop-number-preserved c =
       good = good_next c.args.fields.now c.args.blocks.now c.loop-number.number h at c.loop-number.invariant.good tested;
       scans = λ q sim plain.
           let here = subst (λ (j : Job). Simulates j q) (sym c.loop-number.invariant.job) sim in
-          let added = subst (λ (t : Bool). AddsOf q h.place.entry.rows (good_rows (block_held c.args.fields.now h)) t _ _ _ _ _ _) c.in-Ok-true.field-0-test (c.in-Ok-true.ensures.added q here plain) in
+          let added = subst (λ (t : Bool). AddsOf q h.place.entry.rows (good_rows (block_held c.args.fields.now h)) t c.loop-number.lines c.scan_one.new.lines c.loop-number.frame.chunks c.scan_one.new.frame.chunks c.loop-number.frame.kept c.scan_one.new.frame.kept) c.in-Ok-true.field-0-test (c.in-Ok-true.ensures.added q here plain) in
           scans_next c.args.fields.now c.args.blocks.now c.loop-number.number h at c.loop-number.invariant.good q plain _ _ _ _ _ _ (c.loop-number.invariant.scans q sim plain) added;
     }
