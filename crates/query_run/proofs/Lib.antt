@@ -3,4 +3,6 @@ mod Sink
 mod Plain
 pub mod Nothing
 mod Explaining
+mod Ending
+mod Asking
 pub mod Built

@@ -1,5 +1,5 @@
 -- What each fault says of the text, the names and the files.
-use Rattle.std.specs.Prelude.{◌≡◌, ℕ, IsTrue, List, slice_get, ⊤, Option, Some, None, Result, Ok, Err}
+use Rattle.std.specs.Prelude.{◌≡◌, ℕ, IsTrue, List, ⊤, Option, Some, None, Result, Ok, Err}
 use Rattle.std.specs.Option.{ForSome}
 use Rattle.std.specs.Io.KnownBytes.{Keeps}
 use Rattle.snel_device.specs.Contents.{Contents}
@@ -10,6 +10,12 @@ use Rattle.scan_meaning.specs.Opened.{absent, no_file}
 use Rattle.scan_meaning.specs.Verdicts.{scan, Finds}
 use Rattle.scan_meaning.specs.Answers.{StopsAt, StopsReading}
 use Rattle.scan_meaning.specs.Causes.{IsFirst, index_costs}
+use Rattle.scan_files.specs.Surveys.{FirstIsThere}
+use Rattle.scan_files.specs.declared.fault.FilesFault.{FilesFault}
+use Rattle.scan_files.specs.declared.fault.FilesFault.TheVariants as files_fault
+use Rattle.scan_batches.specs.Scans.{IsNumbered}
+use Rattle.scan_batches.specs.declared.fault.ScanFault.{ScanFault}
+use Rattle.scan_batches.specs.declared.fault.ScanFault.TheVariants as scan_stop
 use Rattle.query_run.specs.Queries.{Accepts, IsAccepted, Refuses}
 use Rattle.query_run.specs.TextFaults.{refused_view}
 use Rattle.query_run.specs.declared.query_fault.QueryFault.{QueryFault}
@@ -21,18 +27,9 @@ SaysOfText sql (Text f) = Refuses sql (refused_view f)
 SaysOfText sql OutOfMemory = ⊤
 SaysOfText sql fault = ⊥
 
--- the first named file is there
-abbrev pub FirstIsThere : Contents → List (List ℕ) → Type 0
-FirstIsThere files names = (name : List ℕ) × (slice_get names 0 ≡ Some name) × (files name ≡ None → ⊥)
-
 -- where files tell, all names have block files, and of the blocks that are to be scanned this holds
 abbrev pub OfScan : Query → List (List ℕ) → Option Contents → (List Block → Type 0) → Type 0
 OfScan q names told P = ForSome told (λ files. (bs : List Block) × ((n : ℕ) × Finds q names (Some files) (scan bs n)) × P bs)
-
--- the block has these numbers
-pub record IsNumbered (b : Block) (file block : ℕ) : Type 0 where
-  pub of_file : b.place.file ≡ file
-  pub of_block : b.place.block ≡ block
 
 -- what a fault says of the names and the files of an accepted query
 abbrev pub SaysOfFiles : Query → List (List ℕ) → Option Contents → QueryFault → Type 0
@@ -71,3 +68,16 @@ StopsSo q names told (Err ReadFault) before now old new =
     IsTrue (is_plain q)
     → ForSome told (λ files. (bs : List Block) (n : ℕ) → Finds q names (Some files) (scan bs n) → StopsReading q bs (index_costs files names) before now old new)
 StopsSo q names told result before now old new = ⊤
+
+-- what stands against the files, and against the blocks, as a fault of the query
+abbrev pub query_fault : FilesFault → QueryFault
+query_fault (files_fault.Absent k) = Absent k
+query_fault (files_fault.NotAFile k) = NotAFile k
+query_fault files_fault.ReadFault = ReadFault
+query_fault files_fault.OutOfMemory = OutOfMemory
+
+abbrev pub scan_fault : ScanFault → QueryFault
+scan_fault (scan_stop.Damaged file block) = Damaged file block
+scan_fault scan_stop.ReadFault = ReadFault
+scan_fault scan_stop.WriteFault = WriteFault
+scan_fault scan_stop.OutOfMemory = OutOfMemory

@@ -1,16 +1,29 @@
 //! A query over files: from its text to its lines.
-ghost use Rattle.std.specs.Prelude.{◌≡◌, ◌≤◌, length, IfOk, IsErrOf};
+ghost use Rattle.std.specs.Prelude.{◌≡◌, ◌≤◌, true, length, IfOk, IsErrOf};
 ghost use Rattle.snel_device.specs.Causes.{Rose};
 ghost use Rattle.tree_meaning.specs.Tree.{Query as QueryTree};
+ghost use Rattle.query_tree.specs.Queries.{query_view};
+ghost use Rattle.program_meaning.specs.Simulation.{Simulates};
+ghost use Rattle.scan_meaning.specs.Batches.{is_plain};
+ghost use Rattle.scan_meaning.specs.Verdicts.{Verdict, Finds};
+ghost use Rattle.scan_meaning.specs.Answers.{EndsAs};
+ghost use Rattle.scan_meaning.specs.Causes.{StaysWithin};
 ghost use Rattle.query_run.specs.Queries.{Accepts};
 ghost use Rattle.query_run.specs.Statuses.{status_after, IsAbsent};
 ghost use Rattle.query_run.specs.Headline.{Headline};
 ghost use Rattle.query_run.specs.Ends.{Ends, Reads};
-ghost use Rattle.query_run.specs.Faults.{HasItsCause, IsQuiet, StopsSo};
+ghost use Rattle.query_run.specs.Faults.{HasItsCause, SaysOfQuery, IsQuiet, StopsSo, query_fault, scan_fault};
 ghost use Rattle.query_run.specs.Sums.{SumsUp};
 
+use crate::accept::accept;
+use crate::compile::job_of;
 use crate::query_fault::QueryFault;
 use crate::sum::QuerySum;
+use batch_lines::JobScanner;
+use lane_ssa::Job;
+use query_tree::Query;
+use scan_batches::{Cut, ScanFault, scan_all};
+use scan_files::{FilesFault, find_places};
 use snel_device::{Files, Out};
 use snel_values::Words;
 use std::alloc::Global;
@@ -57,5 +70,92 @@ pub fn run_query<F: Files, O: Out>(
     ensures told { F.told files.new ≡ F.told files.old }
     ensures same_write_faults { F.write_faults files.new ≡ F.write_faults files.old }
 {
-    Err(QueryFault::OutOfMemory)
+    let checked = match accept(alloc, sql) {
+        Ok(checked) => checked,
+        Err(fault) => return Err(fault),
+    };
+    let job = match job_of(alloc, &checked) {
+        Ok(job) => job,
+        Err(fault) => return Err(fault),
+    };
+    run_job(alloc, checked.query(), &job, names, files, out)
+}
+
+// Answers a query that the job simulates.
+fn run_job<F: Files, O: Out>(
+    alloc: Global,
+    query: &Query,
+    job: &Job,
+    names: &Words,
+    files: &mut F,
+    out: &mut O,
+) -> Result<QuerySum, QueryFault>
+    requires some { 1 ≤ length names.now }
+    requires few { length names.now ≤ 64 }
+    requires simulates { Simulates job.now (query_view query.now) }
+    requires plain { is_plain (query_view query.now) ≡ true }
+    ensures ends { (v : Verdict) → Finds (query_view query.now) names.now (F.told files.old) v
+        → EndsAs (query_view query.now) v (status_after result) (O.holds out.old)
+        (O.holds out.new) }
+    ensures cause { SaysOfQuery (query_view query.now) names.now (F.told files.old) result }
+    ensures quiet { IsQuiet result (O.holds out.old) (O.holds out.new) }
+    ensures stopped { StopsSo (query_view query.now) names.now (F.told files.old) result
+        (F.taken files.old) (F.taken files.new) (O.holds out.old) (O.holds out.new) }
+    ensures later { F.taken files.old ≤ F.taken files.new }
+    ensures taken { StaysWithin (query_view query.now) names.now (F.told files.old)
+        (F.taken files.old) (F.taken files.new) }
+    ensures sum { IfOk result
+        (λ s. SumsUp (query_view query.now) names.now (F.told files.old) s) }
+    ensures absent { IsAbsent result → Rose (F.misses files.old) (F.misses files.new) }
+    ensures read_fault { IsErrOf result QueryFault.ReadFault
+        → Rose (F.read_faults files.old) (F.read_faults files.new) }
+    ensures write_fault { IsErrOf result QueryFault.WriteFault
+        → Rose (O.faults out.old) (O.faults out.new) }
+    ensures told { F.told files.new ≡ F.told files.old }
+    ensures same_write_faults { F.write_faults files.new ≡ F.write_faults files.old }
+{
+    let found = match find_places(alloc, query, names, files) {
+        Ok(found) => found,
+        Err(fault) => return Err(of_files(fault)),
+    };
+    let Ok(mut scanner) = JobScanner::new(alloc, query, job) else {
+        return Err(QueryFault::OutOfMemory);
+    };
+    let cut = Cut {
+        skip: query.skip,
+        take: query.take,
+    };
+    match scan_all(alloc, &mut scanner, &cut, names, &found.fields, &found.places, files, out) {
+        Ok(done) => Ok(QuerySum {
+            lines: done.lines,
+            read: done.read,
+            skipped: found.skipped,
+            ran: scanner.into_tally(),
+        }),
+        Err(fault) => Err(of_scan(fault)),
+    }
+}
+
+// What stands against the files, as a fault of the query.
+fn of_files(fault: FilesFault) -> QueryFault
+    ensures { result ≡ query_fault fault }
+{
+    match fault {
+        FilesFault::Absent(number) => QueryFault::Absent(number),
+        FilesFault::NotAFile(number) => QueryFault::NotAFile(number),
+        FilesFault::ReadFault => QueryFault::ReadFault,
+        FilesFault::OutOfMemory => QueryFault::OutOfMemory,
+    }
+}
+
+// What stands against the blocks, as a fault of the query.
+fn of_scan(fault: ScanFault) -> QueryFault
+    ensures { result ≡ scan_fault fault }
+{
+    match fault {
+        ScanFault::Damaged { file, block } => QueryFault::Damaged { file, block },
+        ScanFault::ReadFault => QueryFault::ReadFault,
+        ScanFault::WriteFault => QueryFault::WriteFault,
+        ScanFault::OutOfMemory => QueryFault::OutOfMemory,
+    }
 }

@@ -1,11 +1,11 @@
 -- The bounds that a WHERE leaves, and the blocks that they exclude.
 use Rattle.std.proofs.Common.{◌≡◌, ℕ, Bool, true, false, not, List, filter, Option, refl, sym, ap, ◌∙◌, subst}
-use Rattle.std.specs.Prelude.{◌↔◌, IsTrue, count_by, ◌++◌}
+use Rattle.std.specs.Prelude.{◌↔◌, IsTrue, count_by, ◌++◌, Result, Ok, Err, OnOk, IfOk}
 use Rattle.file_meaning.specs.Files.{Entry}
 use Rattle.tree_meaning.specs.Tree.{Query}
 use Rattle.range_meaning.specs.declared.Bounds.{Bounds}
 use Rattle.range_meaning.specs.Excluded.{IsExcluded}
-use Rattle.scan_meaning.specs.Blocks.{Place}
+use Rattle.scan_meaning.specs.Blocks.{Place, places_from}
 use Rattle.scan_meaning.specs.Wanted.{bounds_by, are_apart, is_wanted}
 use Rattle.scan_meaning.proofs.Exact.{apart_exact}
 
@@ -31,3 +31,16 @@ added_is q field limits old now ps same h = subst (λ (b : Bounds). now ≡ old 
 pub count_is : (q : Query) (field : List ℕ) (limits : Bounds) (n : ℕ) (ps : List Place) → limits ≡ bounds_by field q.filter → n ≡ count_by (λ p. not (not (are_apart p.entry limits))) ps → n ≡ count_by (λ p. not (is_wanted q field p.entry)) ps
 unfolding is_wanted
 count_is q field limits n ps same h = subst (λ (b : Bounds). n ≡ count_by (λ p. not (not (are_apart p.entry b))) ps) same h
+
+-- the same after a call that may fail
+module _ (q : Query) (field seen : List ℕ) (limits : Bounds) (is : limits ≡ bounds_by seen q.filter) (same : seen ≡ field) (file : ℕ) (es lent : List Entry) (lent_is : lent ≡ es) where
+  limits_are : limits ≡ bounds_by field q.filter
+  limits_are = is ∙ ap (λ (f : List ℕ). bounds_by f q.filter) same
+
+  pub added_on : {A E : Type 0} (r : Result A E) (old now : List Place) → OnOk r (now ≡ old ++ filter (λ p. not (are_apart p.entry limits)) (places_from file 0 lent)) → OnOk r (now ≡ old ++ filter (λ p. is_wanted q field p.entry) (places_from file 0 es))
+  added_on (Ok a) old now h = added_is q field limits old now (places_from file 0 es) limits_are (subst (λ (l : List Entry). now ≡ old ++ filter (λ p. not (are_apart p.entry limits)) (places_from file 0 l)) lent_is h)
+  added_on (Err e) old now h = h
+
+  pub count_on : {E : Type 0} (r : Result ℕ E) → IfOk r (λ n. n ≡ count_by (λ p. not (not (are_apart p.entry limits))) (places_from file 0 lent)) → IfOk r (λ n. n ≡ count_by (λ p. not (is_wanted q field p.entry)) (places_from file 0 es))
+  count_on (Ok n) h = count_is q field limits n (places_from file 0 es) limits_are (subst (λ (l : List Entry). n ≡ count_by (λ p. not (not (are_apart p.entry limits))) (places_from file 0 l)) lent_is h)
+  count_on (Err e) h = h

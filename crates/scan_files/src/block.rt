@@ -2,7 +2,7 @@ use std::marker::Model;
 use time_index::Entry;
 
 /// Where a block stands.
-#[derive(Clone, Copy, Debug, PartialEq, Eq)]
+#[derive(Clone, Copy)]
 pub struct Place {
     /// Its file's number among the names, from 0.
     pub file: u32,

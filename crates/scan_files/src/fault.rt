@@ -1,5 +1,5 @@
 /// What stands against named files, which are counted from 0.
-#[derive(Clone, Copy, Debug, PartialEq, Eq)]
+#[derive(Clone, Copy)]
 pub enum FilesFault {
     /// There is no file of the name with this number.
     Absent(u32),

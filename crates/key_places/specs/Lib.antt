@@ -1,0 +1,3 @@
+pub mod Placed
+pub mod Hashes
+pub mod PairAt
