@@ -20,11 +20,12 @@ const OTHER_WORDS: &str = "snel: words not understood\n";
 
 const READ_FAILED: &str = "snel: files: read failed\n";
 
-// A block with one row, a time of 2024 in seconds from its start on, up to 127.
+// A block with one row, a time of 2024 in seconds from its start on.
 fn block_at(second: u8) -> [u8; 24] {
     let mut block =
         *b"\xe0\x01\x00\xea\xe8\x81\x83\xd5\x87\xb3\x82ts\xda\x8a\x68\x80\x0f\xe8\x81\x81\x80\x80\x80";
-    block[23] = 0x80 | second;
+    block[22] = 0x80 | (second / 60);
+    block[23] = 0x80 | (second % 60);
     block
 }
 
@@ -82,7 +83,7 @@ fn ends_on_many<R: Threads + Sync + AllocGlobal>(
 }
 
 // Words, and what the call ends with.
-static CALLS: [(&[&str], u8, &str, &str); 30] = [
+static CALLS: [(&[&str], u8, &str, &str); 26] = [
     // Blocks that a range of times excludes aren't read.
     (
         &["query", "--stats", FROM, "U"],
@@ -215,7 +216,20 @@ static CALLS: [(&[&str], u8, &str, &str); 30] = [
     ),
     (&["query", "--stats", ALL], 2, "", OTHER_WORDS),
     (&["query", ALL, "T", "--stats"], 2, "", OTHER_WORDS),
-    // Checks.
+];
+
+#[test]
+fn each_call_over_files_ends_so(rt: HostRuntime) {
+    for (words, status, out, err) in &CALLS {
+        assert!(rt;
+            ends_on_many(&rt, words, STEADY, (*status, out.as_bytes(), err)),
+            "{words:?}"
+        );
+    }
+}
+
+// Words of checks, and what the call ends with.
+static CHECKS: [(&[&str], u8, &str, &str); 5] = [
     (
         &["check", "T", "U"],
         6,
@@ -235,11 +249,12 @@ static CALLS: [(&[&str], u8, &str, &str); 30] = [
         "snel: low: block 1 is damaged\n",
     ),
     (&["check"], 2, "", OTHER_WORDS),
+    (&["check", "T", "--stats"], 2, "", OTHER_WORDS),
 ];
 
 #[test]
-fn each_call_over_files_ends_so(rt: HostRuntime) {
-    for (words, status, out, err) in &CALLS {
+fn each_check_ends_so(rt: HostRuntime) {
+    for (words, status, out, err) in &CHECKS {
         assert!(rt;
             ends_on_many(&rt, words, STEADY, (*status, out.as_bytes(), err)),
             "{words:?}"
