@@ -1,5 +1,5 @@
 -- What a job that simulates a query makes of rows is what the query makes of them.
-use Rattle.std.proofs.Common.{◌≡◌, ℕ, suc, ◌+◌, Bool, true, false, cond, List, [], ◌∷◌, map, Option, refl, sym, ◌∙◌, ap, subst, Result}
+use Rattle.std.proofs.Common.{◌≡◌, ℕ, suc, ◌+◌, Bool, true, false, cond, List, [], ◌∷◌, map, Option, refl, sym, ◌∙◌, ap, subst, ◌++◌}
 use Rattle.std.specs.Prelude.{length, if◌then◌else◌}
 use Rattle.std.specs.List.{filter, enumerate_from}
 use Rattle.value_meaning.specs.Val.{Val}
@@ -13,11 +13,11 @@ use Rattle.eval_meaning.specs.Pair.{Pair, alone}
 use Rattle.program_meaning.specs.Registers.{State, live_lane, value_at}
 use Rattle.program_meaning.specs.Jobs.{Job}
 use Rattle.program_meaning.specs.Simulation.{is_star, if_ungrouped, Simulates, ShowsNamed}
-use Rattle.answer_meaning.specs.Made.{Output, pairs_of}
-use Rattle.made_meaning.specs.MadeRows.{named_value, has_value, output_of}
-use Rattle.answer_meaning.specs.Lines.{print}
-use Rattle.block_lines.specs.Written.{Writes}
-use Rattle.block_lines.specs.RowLines.{registers_on, keeps, named_register, shown_pairs, job_output, job_outputs}
+use Rattle.answer_meaning.specs.Made.{Output, Made, pairs_of}
+use Rattle.made_meaning.specs.MadeRows.{named_value, has_value, output_of, made, made_rows}
+use Rattle.made_meaning.proofs.Ungrouped.{made_by_rows}
+use Rattle.answer_meaning.specs.Lines.{line_text}
+use Rattle.block_lines.specs.RowLines.{registers_on, keeps, named_register, shown_pairs, job_output, job_outputs, job_lines, made_lines}
 
 abbrev Out : Type 0
 Out = List ℕ × ℕ
@@ -89,7 +89,19 @@ module _ (job : Job) (q : Query) (simulates : Simulates job q) where
       by_test true r rows e = ap suc e
       by_test false r rows e = e
 
--- what was written is what the query makes
-pub writes_answer : {T E : Type 0} (result : Result T E) (job : Job) (q : Query) → Simulates job q → is_grouped q ≡ false → (rows : List Val) (old new : Option (List ℕ))
-    → Writes result old new (print (job_outputs job rows)) → Writes result old new (print (map (output_of q.outs) (passed q rows)))
-writes_answer result job q simulates single rows old new h = subst (λ (o : List Output). Writes result old new (print o)) (outputs_are job q simulates single rows) h
+-- the lines of the rows that the query makes of pairs
+row_lines : (q : Query) (ps : List Pair) → map line_text (map (output_of q.outs) ps) ≡ map (λ (m : Made). line_text m.output) (made_rows q ps)
+row_lines q [] = refl
+row_lines q (p ∷ ps) = ap (λ (l : List (List ℕ)). line_text (output_of q.outs p) ∷ l) (row_lines q ps)
+
+-- what is made of rows is what the query makes of them
+pub lines_are : (job : Job) (q : Query) → Simulates job q → is_grouped q ≡ false → (rows : List Val) → job_lines job rows ≡ made_lines q rows
+lines_are job q simulates single rows =
+    ap (λ (o : List Output). map line_text o) (outputs_are job q simulates single rows)
+    ∙ row_lines q (passed q rows)
+    ∙ ap (λ (ms : List Made). map (λ (m : Made). line_text m.output) ms) (sym (made_by_rows q rows single))
+
+-- lines were added that are what the query makes
+pub added_lines : (job : Job) (q : Query) → Simulates job q → is_grouped q ≡ false → (rows : List Val) (old new : List (List ℕ))
+    → new ≡ old ++ job_lines job rows → new ≡ old ++ made_lines q rows
+added_lines job q simulates single rows old new h = h ∙ ap (λ (l : List (List ℕ)). old ++ l) (lines_are job q simulates single rows)

@@ -5,8 +5,10 @@ use Rattle.value_meaning.specs.Val.{Val}
 use Rattle.eval_meaning.specs.Pair.{alone}
 use Rattle.program_meaning.specs.Registers.{State, live_lane, after, mask_at, value_at}
 use Rattle.program_meaning.specs.Jobs.{Job}
-use Rattle.answer_meaning.specs.Made.{Output, pairs_of}
-use Rattle.made_meaning.specs.MadeRows.{has_value}
+use Rattle.tree_meaning.specs.Tree.{Query}
+use Rattle.answer_meaning.specs.Made.{Output, Made, pairs_of}
+use Rattle.answer_meaning.specs.Lines.{line_text}
+use Rattle.made_meaning.specs.MadeRows.{has_value, made}
 
 -- the registers that the program shows on the row
 abbrev pub registers_on : Job → Val → State
@@ -31,3 +33,11 @@ job_output job row = if job.ends.star then pairs_of row else shown_pairs (regist
 -- what it makes of rows
 abbrev pub job_outputs : Job → List Val → List Output
 job_outputs job rows = map (job_output job) (filter (keeps job) rows)
+
+-- the lines of these
+abbrev pub job_lines : Job → List Val → List (List ℕ)
+job_lines job rows = map line_text (job_outputs job rows)
+
+-- the lines of the rows that a query makes of rows, in order
+abbrev pub made_lines : Query → List Val → List (List ℕ)
+made_lines q rows = map (λ (m : Made). line_text m.output) (made q rows)

@@ -12,22 +12,6 @@ use Rattle.block_lines.proofs.chunks.append_chunk.Goals as goal
 pub run_chunk-requires-clause-chunk : goal.run_chunk-requires-clause-chunk
 run_chunk-requires-clause-chunk c = record { first = c.args.first; are_cells = c.chunk-chunk.ensures.cells }
 
-pub returns-in_err-append_lanes-clause-kept : goal.returns-in_err-append_lanes-clause-kept
-returns-in_err-append_lanes-clause-kept c =
-    let rows = rows_from c.args.first c.args.block.now.1 in
-    let e = c.run_chunk.ensures in
-    let ran : HasRunOver c.args.block.now.0 rows c.run_chunk.new.self = record { ran = e.ran c.args.first c.chunk-chunk.ensures.cells; legal = e.legal; values = e.values; passed = e.passed } in
-    let lanes = kept_counted c.args.block.now.0 rows c.run_chunk.new.self ran (chunk_short c.args.block.now.1 c.args.first) c.run_chunk.new.self.passed refl in
-    e.kept ∙ ap (counted c.args.frame.now.kept) (lanes ∙ ap (λ (j : Job). length (filter (keeps j) rows)) e.job)
-
-pub returns-clause-lines : goal.returns-clause-lines
-returns-clause-lines c =
-    let rows = rows_from c.args.first c.args.block.now.1 in
-    let e = c.run_chunk.ensures in
-    let ran : HasRunOver c.args.block.now.0 rows c.run_chunk.new.self = record { ran = e.ran c.args.first c.chunk-chunk.ensures.cells; legal = e.legal; values = e.values; passed = e.passed } in
-    let lanes = kept_counted c.args.block.now.0 rows c.run_chunk.new.self ran (chunk_short c.args.block.now.1 c.args.first) c.kept.result.0 c.kept.ensures in
-    c.count.ensures ∙ (lanes ∙ ap (λ (j : Job). length (filter (keeps j) rows)) e.job)
-
 pub returns-clause-kept : goal.returns-clause-kept
 returns-clause-kept c =
     let rows = rows_from c.args.first c.args.block.now.1 in

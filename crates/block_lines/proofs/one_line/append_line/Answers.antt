@@ -7,7 +7,7 @@ use Rattle.ion_cells.specs.Shown.{shown}
 use Rattle.lane_ssa.specs.Frames.{state_at}
 use Rattle.block_lines.specs.RowLines.{shown_pairs}
 use Rattle.block_lines.proofs.RowAt.{star_line, outputs_line}
-use Rattle.block_lines.proofs.lines.append_line.Goals as goal
+use Rattle.block_lines.proofs.one_line.append_line.Goals as goal
 
 pub returns-then-ends : goal.returns-then-ends
 returns-then-ends c row at =

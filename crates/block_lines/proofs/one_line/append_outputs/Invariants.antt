@@ -3,7 +3,7 @@ use Rattle.answer_meaning.specs.Lines.{line_text}
 use Rattle.lane_ssa.specs.Frames.{state_at}
 use Rattle.block_lines.specs.RowLines.{shown_pairs}
 use Rattle.block_lines.proofs.PairByPair.{IsBegun, opened}
-use Rattle.block_lines.proofs.lines.append_outputs.Given as goal
+use Rattle.block_lines.proofs.one_line.append_outputs.Given as goal
 
 -- the pairs of the outputs before this one stand in the line, and the brace before the first of them
 abbrev pub invariant-loop-at : goal.invariant-loop-at

@@ -6,7 +6,7 @@ use Rattle.lane_base.specs.Registers.{seen}
 use Rattle.lane_ssa.specs.Frames.{state_at}
 use Rattle.block_lines.specs.HeadTexts.{head_text}
 use Rattle.block_lines.proofs.PairByPair.{mark_of, same_head, head_found, output_made}
-use Rattle.block_lines.proofs.lines.append_outputs.Goals as goal
+use Rattle.block_lines.proofs.one_line.append_outputs.Goals as goal
 
 pub loop-at-preserved : goal.loop-at-preserved
 loop-at-preserved c =

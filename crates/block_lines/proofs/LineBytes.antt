@@ -1,0 +1,62 @@
+-- Lines in one list of bytes, and bytes that come behind them.
+use Rattle.std.proofs.Common.{◌≡◌, ℕ, zero, suc, ◌+◌, ◌≤◌, List, [], ◌∷◌, ◌++◌, take, drop, map, length, Option, Some, refl, sym, ap, subst, ◌∙◌, arith, length-append}
+use Rattle.std.specs.Prelude.{All, slice_get, option_copied}
+use Rattle.std.proofs.Math.Seq.{take-length, drop-append_seam}
+use Rattle.std.proofs.lemmas.List.{take-append-le, drop-append-le, length-drop, map-append}
+use Rattle.std.proofs.lemmas.List.Elements.{All-append}
+use Rattle.std.proofs.lemmas.Option.{slice_get-map}
+use Rattle.block_lines.specs.declared.line_list.Span.{Span}
+use Rattle.block_lines.specs.LineSpans.{line_at, lines_at, IsSpanIn, AreSpansIn}
+
+-- a span within the bytes holds the same line where more bytes follow
+same_line : (bytes more : List ℕ) (span : Span) → IsSpanIn (length bytes) span → line_at (bytes ++ more) span ≡ line_at bytes span
+same_line bytes more span h =
+    let behind : drop span.start (bytes ++ more) ≡ drop span.start bytes ++ more = drop-append-le span.start bytes more (omega (arith, h)) in
+    let room : span.count ≤ length (drop span.start bytes) = omega (arith, h, length-drop span.start bytes) in
+    ap (take span.count) behind ∙ take-append-le span.count (drop span.start bytes) more room
+
+-- so do all of them
+pub same_lines : (bytes more : List ℕ) (spans : List Span) → AreSpansIn bytes spans → lines_at (bytes ++ more) spans ≡ lines_at bytes spans
+same_lines bytes more [] h = refl
+same_lines bytes more (s ∷ spans) h = λ i. same_line bytes more s h.0 i ∷ same_lines bytes more spans h.1 i
+
+-- spans within the bytes lie within more bytes
+longer : (short long : ℕ) → short ≤ long → (spans : List Span) → All (IsSpanIn short) spans → All (IsSpanIn long) spans
+longer short long l [] h = tt
+longer short long l (s ∷ spans) h = (omega (arith, l, h.0), longer short long l spans h.1)
+
+pub still_in : (bytes next more : List ℕ) → next ≡ bytes ++ more → (spans : List Span) → AreSpansIn bytes spans → AreSpansIn next spans
+still_in bytes next more e spans h =
+    let long : length next ≡ length bytes + length more = ap (λ (l : List ℕ). length l) e ∙ length-append bytes more in
+    longer (length bytes) (length next) (omega (arith, long)) spans h
+
+-- and so does the span of what came behind
+pub one_more_in : (bytes next line : List ℕ) → next ≡ bytes ++ line → (spans : List Span) (span : Span) → span.start ≡ length bytes → span.count ≡ length line
+    → AreSpansIn bytes spans → AreSpansIn next (spans ++ span ∷ [])
+one_more_in bytes next line e spans span s c h =
+    let long : length next ≡ length bytes + length line = ap (λ (l : List ℕ). length l) e ∙ length-append bytes line in
+    let last : span.start + span.count ≤ length next = omega (arith, long, s, c) in
+    All-append (IsSpanIn (length next)) spans (span ∷ []) (still_in bytes next line e spans h) (last, tt)
+
+-- the lines with what came behind as the last one
+pub one_more : (bytes next line : List ℕ) → next ≡ bytes ++ line → (spans : List Span) (span : Span) → span.start ≡ length bytes → span.count ≡ length line
+    → AreSpansIn bytes spans → lines_at next (spans ++ span ∷ []) ≡ lines_at bytes spans ++ line ∷ []
+one_more bytes next line e spans span s c h =
+    let last : line_at (bytes ++ line) span ≡ line =
+        ap (λ (n : ℕ). take span.count (drop n (bytes ++ line))) s
+        ∙ ap (take span.count) (drop-append_seam bytes line)
+        ∙ ap (λ (n : ℕ). take n line) c
+        ∙ take-length line in
+    ap (λ (b : List ℕ). lines_at b (spans ++ span ∷ [])) e
+    ∙ map-append (line_at (bytes ++ line)) spans (span ∷ [])
+    ∙ (λ i. same_lines bytes line spans h i ++ last i ∷ [])
+
+-- the lines are the same where bytes came behind them
+pub none_more : (bytes next more : List ℕ) → next ≡ bytes ++ more → (spans : List Span) → AreSpansIn bytes spans → lines_at next spans ≡ lines_at bytes spans
+none_more bytes next more e spans h = ap (λ (b : List ℕ). lines_at b spans) e ∙ same_lines bytes more spans h
+
+-- a span that is found lies within the bytes
+pub found_in : (bytes : List ℕ) (spans : List Span) (at : ℕ) (span : Span) → Some span ≡ slice_get spans at → AreSpansIn bytes spans → IsSpanIn (length bytes) span
+found_in bytes [] at span e h = absurd (cc)
+found_in bytes (s ∷ spans) zero span e h = let same : s ≡ span = cc in subst (IsSpanIn (length bytes)) same h.0
+found_in bytes (s ∷ spans) (suc at) span e h = found_in bytes spans at span e h.1
