@@ -5,5 +5,6 @@ pub mod LaneByLane
 pub mod LineBytes
 pub mod RowAt
 pub mod Kept
+pub mod KeptRows
 pub mod ChunkByChunk
 pub mod Opened

@@ -43,3 +43,9 @@ abbrev pub lines_after : ScanFault → List (List ℕ) → List (List ℕ)
 lines_after Damaged lines = lines
 lines_after OutOfRange lines = lines
 lines_after OutOfMemory lines = []
+
+-- a bad block leaves it as it was
+abbrev pub StaysIfBad : {A : Type 0} → ScanFault → A → A → Type 0
+StaysIfBad Damaged old new = new ≡ old
+StaysIfBad OutOfRange old new = new ≡ old
+StaysIfBad OutOfMemory old new = ⊤

@@ -30,14 +30,25 @@ shown_pairs registers outs = filter has_value (map (named_register registers) ou
 abbrev pub job_output : Job → Val → Output
 job_output job row = if job.ends.star then pairs_of row else shown_pairs (registers_on job row) job.ends.outs
 
--- what it makes of rows
-abbrev pub job_outputs : Job → List Val → List Output
-job_outputs job rows = map (job_output job) (filter (keeps job) rows)
+-- the rows that pass
+abbrev pub kept_rows : Job → List Val → List Val
+kept_rows job rows = filter (keeps job) rows
 
--- the lines of these
-abbrev pub job_lines : Job → List Val → List (List ℕ)
-job_lines job rows = map line_text (job_outputs job rows)
+-- the line of a row, and of each of some rows
+abbrev pub line_of : Job → Val → List ℕ
+line_of job row = line_text (job_output job row)
+
+abbrev pub lines_of : Job → List Val → List (List ℕ)
+lines_of job rows = map (line_of job) rows
+
+-- the values of a row's sort keys, and its line
+abbrev pub keyed_line : Job → Val → List Val × List ℕ
+keyed_line job row = (map (value_at (registers_on job row)) job.ends.sorts, line_of job row)
 
 -- the lines of the rows that a query makes of rows, in order
 abbrev pub made_lines : Query → List Val → List (List ℕ)
 made_lines q rows = map (λ (m : Made). line_text m.output) (made q rows)
+
+-- these lines, each with the values of the row's sort keys
+abbrev pub made_keyed : Query → List Val → List (List Val × List ℕ)
+made_keyed q rows = map (λ (m : Made). (m.keys, line_text m.output)) (made q rows)

@@ -11,12 +11,14 @@ mod line_list;
 mod one_line;
 mod pairs;
 mod scanning;
+mod sink;
 #[cfg(test)]
 mod tests;
 
-pub use block::append_block;
+pub use block::take_block;
 pub use fault::ScanFault;
 pub use heads::LineHeads;
 pub use line_list::Lines;
 pub use pairs::append_look;
-pub use scanning::scan_block;
+pub use scanning::{scan_block, scan_rows};
+pub use sink::RowSink;

@@ -2,15 +2,15 @@
 
 ghost use Rattle.std.specs.Prelude.{◌≡◌, ◌<◌, ◌+◌, ◌++◌, ◌∷◌, [], Some, length, slice_get, OnOk, OnErr, option_copied};
 ghost use Rattle.value_meaning.specs.Val.{Val};
-ghost use Rattle.answer_meaning.specs.Lines.{line_text};
 ghost use Rattle.lane_ssa.specs.ChunksOf.{rows_from};
 ghost use Rattle.block_lines.specs.HeadTexts.{AreHeads};
 ghost use Rattle.block_lines.specs.LineSpans.{line_at, IsSpanIn};
 ghost use Rattle.block_lines.specs.Ran.{HasRunOver};
-ghost use Rattle.block_lines.specs.RowLines.{job_output};
+ghost use Rattle.block_lines.specs.RowLines.{line_of};
 
 use crate::heads::LineHeads;
 use crate::one_line::append_line;
+use crate::sink::RowSink;
 use block_file::Block;
 use lane_ssa::Frame;
 use snel_values::{Bytes, OutOfMemory};
@@ -93,7 +93,7 @@ impl Lines {
 
     /// Adds the line of the row in a lane, which is below 16, of the chunk from `first` on that the frame ran over. For want
     /// of memory all lines are dropped.
-    pub(crate) fn push_row<'b>(
+    fn push_row<'b>(
         &mut self,
         heads: &LineHeads,
         frame: &Frame<'b>,
@@ -106,7 +106,7 @@ impl Lines {
         requires within { first + lane < length block.now.1 }
         requires ran { HasRunOver block.now.0 (rows_from first block.now.1) frame.now }
         ensures ok { (row : Val) → slice_get (rows_from first block.now.1) lane ≡ Some row
-            → OnOk result (self.new ≡ self.old ++ line_text (job_output frame.now.job row) ∷ []) }
+            → OnOk result (self.new ≡ self.old ++ line_of frame.now.job row ∷ []) }
         ensures err { OnErr result (self.new ≡ []) }
     {
         let start = self.bytes.len();
@@ -123,6 +123,30 @@ impl Lines {
         };
         Ok(())
     }
+}
+
+impl RowSink for Lines {
+    ghost use Rattle.std.specs.Prelude.{◌≡◌, ◌++◌};
+    ghost use Rattle.block_lines.specs.RowLines.{line_of, lines_of};
+    ghost use Rattle.block_lines.specs.Growing.{grown_by_none, grown_by_both};
+
+    ghost grew = { λ a b job rows. b ≡ a ++ lines_of job rows };
+
+    fn take<'b>(
+        &mut self,
+        _alloc: Global,
+        heads: &LineHeads,
+        frame: &Frame<'b>,
+        block: &Block<'b>,
+        first: u32,
+        lane: u32,
+    ) -> Result<(), OutOfMemory> {
+        self.push_row(heads, frame, block, first, lane)
+    }
+
+    ghost grew_by_none = { λ s job. grown_by_none (line_of job) s };
+
+    ghost grew_by_both = { λ a b c job xs ys h k. grown_by_both (line_of job) a b c xs ys h k };
 }
 
 /// The bytes of a span.

@@ -11,7 +11,7 @@ ghost use Rattle.lane_ssa.specs.Frames.{state_at};
 ghost use Rattle.lane_ssa.specs.ChunksOf.{rows_from};
 ghost use Rattle.block_lines.specs.HeadTexts.{value_behind, AreHeads};
 ghost use Rattle.block_lines.specs.Ran.{HasRunOver};
-ghost use Rattle.block_lines.specs.RowLines.{shown_pairs, job_output};
+ghost use Rattle.block_lines.specs.RowLines.{shown_pairs, line_of};
 
 use crate::heads::LineHeads;
 use crate::pairs::append_look;
@@ -92,7 +92,7 @@ pub(crate) fn append_line<'b>(
     requires within { first + lane < length block.now.1 }
     requires ran { HasRunOver block.now.0 (rows_from first block.now.1) frame.now }
     ensures { (row : Val) → slice_get (rows_from first block.now.1) lane ≡ Some row
-        → OnOk result (into.new ≡ into.old ++ line_text (job_output frame.now.job row)) }
+        → OnOk result (into.new ≡ into.old ++ line_of frame.now.job row) }
 {
     block.know();
     if frame.job().ends().star {

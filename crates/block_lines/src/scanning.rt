@@ -7,28 +7,26 @@ ghost use Rattle.check_meaning.specs.Aggregates.{is_grouped};
 ghost use Rattle.eval_meaning.specs.Passed.{passed};
 ghost use Rattle.program_meaning.specs.Simulation.{Simulates};
 ghost use Rattle.lane_ssa.specs.Counts.{counted};
-ghost use Rattle.block_lines.specs.GoodBlocks.{IsGoodBlock, HasGoodRows, SaysOfBlock, lines_after};
+ghost use Rattle.block_lines.specs.GoodBlocks.{IsGoodBlock, HasGoodRows, SaysOfBlock, lines_after, StaysIfBad};
 ghost use Rattle.block_lines.specs.HeadTexts.{AreHeads};
-ghost use Rattle.block_lines.specs.RowLines.{made_lines};
+ghost use Rattle.block_lines.specs.RowLines.{kept_rows, made_lines};
 
-use crate::block::append_block;
+use crate::block::take_block;
 use crate::fault::ScanFault;
 use crate::heads::LineHeads;
 use crate::line_list::Lines;
+use crate::sink::RowSink;
 use block_file::{Block, BlockFault, open_block};
 use lane_ssa::Frame;
 use snel_values::OutOfMemory;
 use std::alloc::Global;
 use time_index::{Entry, in_range};
 
-/// Tests the bytes of a block, runs the frame's job over its rows, sixteen at a time, and adds a line for each row that passes,
-/// in order. The block is good where the bytes are a block of as many rows as its entry says, of which each time in the indexed
-/// field lies from the entry's least to its greatest; the empty name says that no field is indexed. Before the last row is
-/// tested nothing is added.
+/// Scans a block into lines: as [`scan_rows`] does, with the line of each row that passes.
 ///
 /// What is added are the lines of what a query that the job simulates makes of the block's rows, where the query isn't
-/// grouped. The frame counts each chunk and each row that passes. `Damaged` and `OutOfRange` come only where the block is so,
-/// and leave the lines as they were; for want of memory all lines are dropped, also those of before.
+/// grouped. `Damaged` and `OutOfRange` leave the lines as they were; for want of memory all lines are dropped, also those of
+/// before.
 pub fn scan_block<'b>(
     alloc: Global,
     frame: &mut Frame<'b>,
@@ -52,15 +50,50 @@ pub fn scan_block<'b>(
     ensures same { IfErr result (λ fault. into.new ≡ lines_after fault into.old) }
     ensures job { frame.new.job ≡ frame.old.job }
 {
-    let block = match open_good(alloc, bytes, entry, field) {
-        Ok(block) => block,
+    match scan_rows(alloc, frame, heads, bytes, entry, field, into) {
+        Ok(()) => Ok(()),
         Err(ScanFault::OutOfMemory) => {
             into.clear();
-            return Err(ScanFault::OutOfMemory);
+            Err(ScanFault::OutOfMemory)
         }
+        Err(fault) => Err(fault),
+    }
+}
+
+/// Tests the bytes of a block, runs the frame's job over its rows, sixteen at a time, and hands on each row that passes, in
+/// order. The block is good where the bytes are a block of as many rows as its entry says, of which each time in the indexed
+/// field lies from the entry's least to its greatest; the empty name says that no field is indexed. Before the last row is
+/// tested none is handed on.
+///
+/// The frame counts each chunk and each row that passes. `Damaged` and `OutOfRange` come only where the block is so, and leave
+/// the sink as it was; for want of memory some of the rows may be handed on.
+pub fn scan_rows<'b, S: RowSink>(
+    alloc: Global,
+    frame: &mut Frame<'b>,
+    heads: &LineHeads,
+    bytes: &'b [u8],
+    entry: &Entry,
+    field: &str,
+    sink: &mut S,
+) -> Result<(), ScanFault>
+    requires heads { AreHeads frame.old.job.ends.outs heads.now }
+    ensures good { OnOk result (HasGoodRows field.now entry.now bytes.now) }
+    ensures rows { (rows : List Val) → IsGoodBlock field.now entry.now bytes.now rows
+        → OnOk result (S.grew sink.old sink.new frame.old.job (kept_rows frame.old.job rows)) }
+    ensures chunks { (rows : List Val) → IsGoodBlock field.now entry.now bytes.now rows
+        → OnOk result (frame.new.chunks ≡ counted frame.old.chunks ((length rows + 15) / 16)) }
+    ensures kept { (rows : List Val) → IsGoodBlock field.now entry.now bytes.now rows
+        → OnOk result (frame.new.kept
+        ≡ counted frame.old.kept (length (kept_rows frame.old.job rows))) }
+    ensures cause { IfErr result (λ fault. SaysOfBlock field.now entry.now bytes.now fault) }
+    ensures same { IfErr result (λ fault. StaysIfBad fault sink.old sink.new) }
+    ensures job { frame.new.job ≡ frame.old.job }
+{
+    let block = match open_good(alloc, bytes, entry, field) {
+        Ok(block) => block,
         Err(fault) => return Err(fault),
     };
-    match append_block(into, heads, frame, &block) {
+    match take_block(alloc, heads, frame, &block, sink) {
         Ok(()) => Ok(()),
         Err(OutOfMemory) => Err(ScanFault::OutOfMemory),
     }

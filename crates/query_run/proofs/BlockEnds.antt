@@ -12,7 +12,7 @@ use Rattle.time_index.specs.Answers.{Knows}
 use Rattle.query_run.specs.declared.query_fault.QueryFault.{QueryFault}
 use Rattle.query_run.specs.declared.query_fault.QueryFault.TheVariants.{Text, Absent, NotAFile, Damaged, ReadFault, WriteFault, OutOfMemory}
 use Rattle.query_run.specs.Queries.{Accepts, IsAccepted}
-use Rattle.block_lines.specs.Written.{Writes}
+use Rattle.query_run.specs.Written.{Writes}
 use Rattle.query_run.specs.Headline.{Answers, AddsAnswer}
 use Rattle.query_run.specs.Statuses.{status_of, status_after, IsWriteOrMemory, IsBlockFault}
 use Rattle.query_run.specs.Verdicts.{Verdict, no_query, no_such_file, no_block_file, bad_block, rows, unknown, Allows, EndsAs}

@@ -1,5 +1,5 @@
 -- The sum of a query over the rows of one block is that of the file's rows.
-use Rattle.std.proofs.Common.{◌≡◌, ℕ, List, Option, Result, Ok, Err, subst}
+use Rattle.std.proofs.Common.{◌≡◌, ℕ, true, List, Option, Result, Ok, Err, subst}
 use Rattle.std.specs.Prelude.{IfOk}
 use Rattle.snel_device.specs.Contents.{Contents}
 use Rattle.value_meaning.specs.Val.{Val}
@@ -10,6 +10,7 @@ use Rattle.tree_meaning.specs.Tree.{Query}
 use Rattle.time_index.specs.Answers.{Knows}
 use Rattle.program_meaning.specs.Jobs.{Job}
 use Rattle.program_meaning.specs.Simulation.{Simulates}
+use Rattle.plan_lower.specs.Forms.{is_lowered}
 use Rattle.query_run.specs.declared.query_fault.QueryFault.{QueryFault}
 use Rattle.query_run.specs.declared.sum.QuerySum.{QuerySum}
 use Rattle.query_run.specs.Queries.{Accepts}
@@ -26,13 +27,13 @@ abbrev SumsInBlock : Job → ℕ → List ℕ → QuerySum → Type 0
 SumsInBlock job n bytes s = (sql : List ℕ) (q : Query) (rs : List Val) → Compiles sql job → Accepts sql q → FindsInBlock n bytes (rows rs) → Sums q rs s
 
 module _ (job : Job) (n : ℕ) (bytes : List ℕ) (table : Table) (own : List Val) (block : IsBlock table own bytes) where
-  of_block : (s : QuerySum) → ((q : Query) → Simulates job q → Sums q own s) → SumsInBlock job n bytes s
+  of_block : (s : QuerySum) → ((q : Query) → Simulates job q → is_lowered q ≡ true → Sums q own s) → SumsInBlock job n bytes s
   of_block s h sql q rs compiles accepts f =
       let same_query = one_accepted sql compiles.q q compiles.accepts accepts in
       let same_rows : own ≡ rs = (one_list table f.0 own rs bytes block f.1).1 in
-      subst (λ (l : List Val). Sums q l s) same_rows (h q (subst (λ (x : Query). Simulates job x) same_query compiles.simulates))
+      subst (λ (l : List Val). Sums q l s) same_rows (h q (subst (λ (x : Query). Simulates job x) same_query compiles.simulates) accepts.built)
 
-  pub sums_of_block : (r : Result QuerySum QueryFault) → IfOk r (λ s. (q : Query) → Simulates job q → Sums q own s) → IfOk r (SumsInBlock job n bytes)
+  pub sums_of_block : (r : Result QuerySum QueryFault) → IfOk r (λ s. (q : Query) → Simulates job q → is_lowered q ≡ true → Sums q own s) → IfOk r (SumsInBlock job n bytes)
   sums_of_block (Ok s) h = of_block s h
   sums_of_block (Err f) h = tt
 

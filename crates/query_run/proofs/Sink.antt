@@ -1,13 +1,20 @@
 -- What a sink holds after a text, or some of it.
-use Rattle.std.proofs.Common.{◌≡◌, ℕ, List, [], map, Option, Some, None, Result, Ok, Err, refl, sym, ◌∙◌, arith}
-use Rattle.std.proofs.lemmas.List.{append-nil}
+use Rattle.std.proofs.Common.{◌≡◌, ℕ, zero, suc, length, List, [], map, Option, Some, None, Result, Ok, Err, refl, sym, ◌∙◌, ap, arith, ◌++◌, ◌∷◌, take, drop, append_assoc, take-append-drop, false}
+use Rattle.std.proofs.lemmas.List.{append-nil, length-map}
+use Rattle.std.specs.List.{concat}
+use Rattle.std.specs.Prelude.{slice_get}
 use Rattle.std.specs.Io.KnownBytes.{Appends, Keeps}
 use Rattle.value_meaning.specs.Val.{Val}
 use Rattle.tree_meaning.specs.Tree.{Query}
 use Rattle.eval_meaning.specs.Passed.{passed}
-use Rattle.made_meaning.specs.MadeRows.{output_of}
-use Rattle.answer_meaning.specs.Lines.{print}
-use Rattle.block_lines.specs.Written.{IsPrefix, Writes}
+use Rattle.made_meaning.specs.MadeRows.{output_of, made_row, made_rows}
+use Rattle.made_meaning.proofs.Ungrouped.{made_by_rows}
+use Rattle.check_meaning.specs.Aggregates.{is_grouped}
+use Rattle.eval_meaning.specs.Pair.{Pair}
+use Rattle.answer_meaning.specs.Made.{Made}
+use Rattle.answer_meaning.specs.Lines.{line_text, print}
+use Rattle.block_lines.specs.RowLines.{made_lines}
+use Rattle.query_run.specs.Written.{IsPrefix, Writes}
 use Rattle.query_run.specs.declared.query_fault.QueryFault.{QueryFault}
 use Rattle.query_run.specs.declared.query_fault.QueryFault.TheVariants.{Text, Absent, NotAFile, Damaged, ReadFault, WriteFault, OutOfMemory}
 use Rattle.query_run.specs.Statuses.{status_of, status_after}
@@ -61,3 +68,67 @@ as_cut r f old new text w = record { added = w.added; appends = w.appends; whole
 
 pub none_written : {A : Type 0} (f : QueryFault) (a : Option (List ℕ)) (text : List ℕ) → Writes {T = A} {E = QueryFault} (Err f) a a text
 none_written f a text = record { added = []; appends = Appends-nothing a; whole = tt; front = (text, refl) }
+
+pub appends_both : (a b c : Option (List ℕ)) (x y : List ℕ) → Appends a b x → Appends b c y → Appends a c (x ++ y)
+appends_both None b c x y h k = tt
+appends_both (Some xs) None c x y h k = absurd h
+appends_both (Some xs) (Some ys) None x y h k = absurd k
+appends_both (Some xs) (Some ys) (Some zs) x y h k = k ∙ ap (λ (l : List ℕ). l ++ y) h ∙ append_assoc xs x y
+
+-- The lines that were put, with those that are left, are all of them.
+pub record HasPut (old now : Option (List ℕ)) (all rest : List (List ℕ)) : Type 0 where
+  pub taken : List ℕ
+  pub appends : Appends old now taken
+  pub parts : concat all ≡ taken ++ concat rest
+
+pub put_at_first : (a : Option (List ℕ)) (all : List (List ℕ)) → HasPut a a all all
+put_at_first a all = record { taken = []; appends = Appends-nothing a; parts = refl }
+
+pub one_put : (old mid now : Option (List ℕ)) (all : List (List ℕ)) (line : List ℕ) (rest : List (List ℕ)) → HasPut old mid all (line ∷ rest) → Appends mid now line → HasPut old now all rest
+one_put old mid now all line rest h k = record {
+  taken = h.taken ++ line;
+  appends = appends_both old mid now h.taken line h.appends k;
+  parts = h.parts ∙ sym (append_assoc h.taken line (concat rest));
+}
+
+-- a front of a line was put, and no more will be
+pub cut_short : {A E : Type 0} (e : E) (old mid now : Option (List ℕ)) (n : ℕ) (all : List (List ℕ)) (line : List ℕ) (rest : List (List ℕ)) → HasPut old mid all (line ∷ rest) → Appends mid now (take n line)
+    → Writes {T = A} (Err e) old now (concat all)
+cut_short e old mid now n all line rest h k = record {
+  added = h.taken ++ take n line;
+  appends = appends_both old mid now h.taken (take n line) h.appends k;
+  whole = tt;
+  front = (
+    drop n line ++ concat rest,
+    h.parts
+        ∙ ap (λ (l : List ℕ). h.taken ++ (l ++ concat rest)) (sym (take-append-drop n line))
+        ∙ ap (λ (l : List ℕ). h.taken ++ l) (append_assoc (take n line) (drop n line) (concat rest))
+        ∙ sym (append_assoc h.taken (take n line) (drop n line ++ concat rest)),
+  );
+}
+
+pub all_put : {A E : Type 0} (a : A) (old now : Option (List ℕ)) (all : List (List ℕ)) → HasPut old now all [] → Writes {E = E} (Ok a) old now (concat all)
+all_put a old now all h =
+    let same : concat all ≡ h.taken = h.parts ∙ append-nil h.taken in
+    record { added = h.taken; appends = h.appends; whole = sym same; front = ([], h.parts) }
+
+-- the lines of what a query makes of rows, end to end
+pub made_text : (q : Query) (rows : List Val) → is_grouped q ≡ false → concat (made_lines q rows) ≡ lines_of q rows
+made_text q rows single = ap (λ (ms : List Made). concat (map (λ (m : Made). line_text m.output) ms)) (made_by_rows q rows single) ∙ text_of (passed q rows)
+  where
+    text_of : (ps : List Pair) → concat (map (λ (m : Made). line_text m.output) (made_rows q ps)) ≡ print (map (output_of q.outs) ps)
+    text_of [] = refl
+    text_of (p ∷ ps) = ap (λ (l : List ℕ). line_text (output_of q.outs p) ++ l) (text_of ps)
+
+-- and how many they are
+pub made_count : (q : Query) (rows : List Val) → is_grouped q ≡ false → length (made_lines q rows) ≡ length (passed q rows)
+made_count q rows single =
+    ap (λ (ms : List Made). length (map (λ (m : Made). line_text m.output) ms)) (made_by_rows q rows single)
+    ∙ length-map (λ (m : Made). line_text m.output) (made_rows q (passed q rows))
+    ∙ length-map (made_row q) (passed q rows)
+
+-- the rest of a list from a place on begins with what stands there
+pub rest_at : (ls : List (List ℕ)) (at : ℕ) (l : List ℕ) → Some l ≡ slice_get ls at → drop at ls ≡ l ∷ drop (suc at) ls
+rest_at [] at l e = absurd (cc)
+rest_at (x ∷ ls) zero l e = let same : x ≡ l = cc in ap (λ (y : List ℕ). y ∷ ls) same
+rest_at (x ∷ ls) (suc at) l e = rest_at ls at l e

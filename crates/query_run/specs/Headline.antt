@@ -9,7 +9,7 @@ use Rattle.answer_meaning.specs.Made.{Output}
 use Rattle.answer_meaning.specs.Answers.{IsAnswer}
 use Rattle.answer_meaning.specs.Lines.{print}
 use Rattle.made_meaning.specs.MadeRows.{made}
-use Rattle.block_lines.specs.Written.{IsPrefix}
+use Rattle.query_run.specs.Written.{IsPrefix}
 use Rattle.query_run.specs.Queries.{Accepts}
 
 -- which order keys fall

@@ -9,3 +9,4 @@ pub mod Faults
 pub mod Jobs
 pub mod Sums
 pub mod Explained
+pub mod Written

@@ -3,6 +3,7 @@
 
 mod accept;
 mod compile;
+mod lines;
 mod listing;
 mod load;
 mod query;

@@ -9,7 +9,7 @@ ghost use Rattle.answer_meaning.specs.Lines.{print};
 ghost use Rattle.made_meaning.specs.MadeRows.{output_of};
 ghost use Rattle.program_meaning.specs.Simulation.{Simulates};
 ghost use Rattle.plan_lower.specs.Forms.{is_lowered};
-ghost use Rattle.block_lines.specs.Written.{Writes};
+ghost use Rattle.query_run.specs.Written.{Writes};
 ghost use Rattle.query_run.specs.Queries.{Accepts};
 ghost use Rattle.query_run.specs.Jobs.{Compiles};
 ghost use Rattle.query_run.specs.Statuses.{status_after, IsWriteOrMemory, IsBlockFault};
@@ -20,13 +20,13 @@ ghost use Rattle.query_run.specs.Faults.{HasItsCause, IsQuiet};
 ghost use Rattle.query_run.specs.Sums.{Sums, SumsUp};
 
 use crate::compile::compile;
+use crate::lines::{lines_of, put_lines};
 use crate::load::{Stored, load};
 use crate::query_fault::QueryFault;
 use crate::sum::QuerySum;
 use block_file::{Block, BlockFault, open_block};
-use block_lines::{LinesFault, write_lines};
 use lane_ssa::{Frame, Job};
-use snel_device::{Files, Out};
+use snel_device::{Failed, Files, Out};
 use snel_values::OutOfMemory;
 use std::alloc::Global;
 
@@ -106,7 +106,8 @@ fn write_block<'b, O: Out>(
     ensures written { (q : QueryTree) → Simulates job.now q → is_lowered q ≡ true
         → Writes result (O.holds out.old) (O.holds out.new)
         (print (map (output_of q.outs) (passed q block.now.1))) }
-    ensures sum { IfOk result (λ s. (q : QueryTree) → Simulates job.now q → Sums q block.now.1 s) }
+    ensures sum { IfOk result (λ s. (q : QueryTree) → Simulates job.now q → is_lowered q ≡ true
+        → Sums q block.now.1 s) }
     ensures refused { IsWriteOrMemory result }
     ensures fault { HasCause (O.faults out.old) (O.faults out.new)
         (IsErrOf result QueryFault.WriteFault) }
@@ -116,14 +117,17 @@ fn write_block<'b, O: Out>(
         Ok(frame) => frame,
         Err(OutOfMemory) => return Err(QueryFault::OutOfMemory),
     };
-    match write_lines(alloc, &mut frame, block, out) {
-        Ok(lines) => Ok(QuerySum {
-            lines,
+    let lines = match lines_of(alloc, &mut frame, block) {
+        Ok(lines) => lines,
+        Err(OutOfMemory) => return Err(QueryFault::OutOfMemory),
+    };
+    match put_lines(&lines, out) {
+        Ok(()) => Ok(QuerySum {
+            lines: lines.len() as u64,
             read: 1,
             skipped: 0,
             ran: frame.into_tally(),
         }),
-        Err(LinesFault::WriteFault) => Err(QueryFault::WriteFault),
-        Err(LinesFault::OutOfMemory) => Err(QueryFault::OutOfMemory),
+        Err(Failed) => Err(QueryFault::WriteFault),
     }
 }
