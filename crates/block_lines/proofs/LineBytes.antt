@@ -1,10 +1,10 @@
 -- Lines in one list of bytes, and bytes that come behind them.
 use Rattle.std.proofs.Common.{◌≡◌, ℕ, zero, suc, ◌+◌, ◌≤◌, List, [], ◌∷◌, ◌++◌, take, drop, map, length, Option, Some, refl, sym, ap, subst, ◌∙◌, arith, length-append}
-use Rattle.std.specs.Prelude.{All, slice_get, option_copied}
+use Rattle.std.specs.Prelude.{All, slice_get}
 use Rattle.std.proofs.Math.Seq.{take-length, drop-append_seam}
 use Rattle.std.proofs.lemmas.List.{take-append-le, drop-append-le, length-drop, map-append}
 use Rattle.std.proofs.lemmas.List.Elements.{All-append}
-use Rattle.std.proofs.lemmas.Option.{slice_get-map}
+use Rattle.std.proofs.lemmas.Option.{get_or_from_slice_get, slice_get_within}
 use Rattle.block_lines.specs.declared.line_list.Span.{Span}
 use Rattle.block_lines.specs.LineSpans.{line_at, lines_at, IsSpanIn, AreSpansIn}
 
@@ -18,12 +18,18 @@ same_line bytes more span h =
 -- so do all of them
 pub same_lines : (bytes more : List ℕ) (spans : List Span) → AreSpansIn bytes spans → lines_at (bytes ++ more) spans ≡ lines_at bytes spans
 same_lines bytes more [] h = refl
-same_lines bytes more (s ∷ spans) h = λ i. same_line bytes more s h.0 i ∷ same_lines bytes more spans h.1 i
+same_lines bytes more (s ∷ spans) h =
+    let first : IsSpanIn (length bytes) s = h 0 s (omega arith) in
+    let others : AreSpansIn bytes spans = λ k d l. h (suc k) d (omega (arith, l)) in
+    λ i. same_line bytes more s first i ∷ same_lines bytes more spans others i
 
 -- spans within the bytes lie within more bytes
 longer : (short long : ℕ) → short ≤ long → (spans : List Span) → All (IsSpanIn short) spans → All (IsSpanIn long) spans
-longer short long l [] h = tt
-longer short long l (s ∷ spans) h = (omega (arith, l, h.0), longer short long l spans h.1)
+longer short long l spans h = λ k d b. omega (arith, l, h k d b)
+
+only_one : {A : Type 0} (P : A → Type 0) (x : A) → P x → All P (x ∷ [])
+only_one P x h zero d l = h
+only_one P x h (suc k) d l = absurd (omega (arith, l))
 
 pub still_in : (bytes next more : List ℕ) → next ≡ bytes ++ more → (spans : List Span) → AreSpansIn bytes spans → AreSpansIn next spans
 still_in bytes next more e spans h =
@@ -36,7 +42,7 @@ pub one_more_in : (bytes next line : List ℕ) → next ≡ bytes ++ line → (s
 one_more_in bytes next line e spans span s c h =
     let long : length next ≡ length bytes + length line = ap (λ (l : List ℕ). length l) e ∙ length-append bytes line in
     let last : span.start + span.count ≤ length next = omega (arith, long, s, c) in
-    All-append (IsSpanIn (length next)) spans (span ∷ []) (still_in bytes next line e spans h) (last, tt)
+    All-append (IsSpanIn (length next)) spans (span ∷ []) (still_in bytes next line e spans h) (only_one (IsSpanIn (length next)) span last)
 
 -- the lines with what came behind as the last one
 pub one_more : (bytes next line : List ℕ) → next ≡ bytes ++ line → (spans : List Span) (span : Span) → span.start ≡ length bytes → span.count ≡ length line
@@ -57,6 +63,5 @@ none_more bytes next more e spans h = ap (λ (b : List ℕ). lines_at b spans) e
 
 -- a span that is found lies within the bytes
 pub found_in : (bytes : List ℕ) (spans : List Span) (at : ℕ) (span : Span) → Some span ≡ slice_get spans at → AreSpansIn bytes spans → IsSpanIn (length bytes) span
-found_in bytes [] at span e h = absurd (cc)
-found_in bytes (s ∷ spans) zero span e h = let same : s ≡ span = cc in subst (IsSpanIn (length bytes)) same h.0
-found_in bytes (s ∷ spans) (suc at) span e h = found_in bytes spans at span e h.1
+found_in bytes spans at span e h =
+    subst (IsSpanIn (length bytes)) (get_or_from_slice_get spans at span span (sym e)) (h at span (slice_get_within spans at span (sym e)))
