@@ -99,9 +99,9 @@ module _ (job : Job) (q : Query) (simulates : Simulates job q) where
   -- as many rows are kept
   pub kept_many : (rows : List Val) → length (kept_rows job rows) ≡ length (passed q rows)
   kept_many rows =
-      sym (length-map (λ (r : Val). zero) (kept_rows job rows))
+      sym (length-map (kept_rows job rows) (λ (r : Val). zero))
       ∙ ap (λ (l : List ℕ). length l) (kept_map (λ (r : Val). zero) (λ (p : Pair). zero) (λ row k. refl) rows)
-      ∙ length-map (λ (p : Pair). zero) (passed q rows)
+      ∙ length-map (passed q rows) (λ (p : Pair). zero)
 
 -- what is made of the rows of pairs, and of the pairs
 over_made : {A : Type 0} (q : Query) (f : Made → A) (ps : List Pair) → map (λ (p : Pair). f (made_row q p)) ps ≡ map f (made_rows q ps)

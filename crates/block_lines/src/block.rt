@@ -22,6 +22,7 @@ pub fn take_block<'b, S: RowSink>(
     block: &Block<'b>,
     sink: &mut S,
 ) -> Result<(), OutOfMemory>
+    requires takes { S.takes sink.old frame.old.job }
     requires heads { AreHeads frame.old.job.ends.outs heads.now }
     ensures rows { OnOk result (S.grew sink.old sink.new frame.old.job
         (kept_rows frame.old.job block.now.1)) }

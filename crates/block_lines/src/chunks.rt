@@ -25,6 +25,7 @@ fn take_lanes<'b, S: RowSink>(
     first: u32,
     sink: &mut S,
 ) -> Result<(), OutOfMemory>
+    requires takes { S.takes sink.old frame.now.job }
     requires heads { AreHeads frame.now.job.ends.outs heads.now }
     requires ran { HasRunOver block.now.0 (rows_from first block.now.1) frame.now }
     ensures { OnOk result (S.grew sink.old sink.new frame.now.job
@@ -48,6 +49,7 @@ pub(crate) fn take_chunk<'b, S: RowSink>(
     first: u32,
     sink: &mut S,
 ) -> Result<(), OutOfMemory>
+    requires takes { S.takes sink.old frame.old.job }
     requires heads { AreHeads frame.old.job.ends.outs heads.now }
     requires bound { IsBound block.now.0 frame.old.job.program frame.old.symbols }
     requires within { first < length block.now.1 }

@@ -130,6 +130,8 @@ impl RowSink for Lines {
     ghost use Rattle.block_lines.specs.RowLines.{line_of, lines_of};
     ghost use Rattle.block_lines.specs.Growing.{grown_by_none, grown_by_both};
 
+    ghost takes = { λ _ _. Unit {0} };
+
     ghost grew = { λ a b job rows. b ≡ a ++ lines_of job rows };
 
     fn take<'b>(
@@ -147,6 +149,8 @@ impl RowSink for Lines {
     ghost grew_by_none = { λ s job. grown_by_none (line_of job) s };
 
     ghost grew_by_both = { λ a b c job xs ys h k. grown_by_both (line_of job) a b c xs ys h k };
+
+    ghost takes_more = { λ _ _ _ _ h _. h };
 }
 
 /// The bytes of a span.

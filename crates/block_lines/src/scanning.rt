@@ -76,6 +76,7 @@ pub fn scan_rows<'b, S: RowSink>(
     field: &str,
     sink: &mut S,
 ) -> Result<(), ScanFault>
+    requires takes { S.takes sink.old frame.old.job }
     requires heads { AreHeads frame.old.job.ends.outs heads.now }
     ensures good { OnOk result (HasGoodRows field.now entry.now bytes.now) }
     ensures rows { (rows : List Val) → IsGoodBlock field.now entry.now bytes.now rows

@@ -15,6 +15,9 @@ use std::alloc::Global;
 
 /// Takes the rows that pass, one after the other, from the registers that a frame holds in their lanes.
 pub trait RowSink {
+    /// It takes rows of the job.
+    ghost takes: { Self → Job → Type 0 };
+
     /// It grew by what the job makes of these rows, in order.
     ghost grew: { Self → Self → Job → List Val → Type 0 };
 
@@ -28,6 +31,7 @@ pub trait RowSink {
         first: u32,
         lane: u32,
     ) -> Result<(), OutOfMemory>
+        requires takes { takes self.old frame.now.job }
         requires lane { lane < 16 }
         requires heads { AreHeads frame.now.job.ends.outs heads.now }
         requires within { first + lane < length block.now.1 }
@@ -41,4 +45,8 @@ pub trait RowSink {
     /// Where it grew twice, it grew by the rows of both.
     ghost grew_by_both: { (a b c : Self) (job : Job) (xs ys : List Val)
         → grew a b job xs → grew b c job ys → grew a c job (xs ++ ys) };
+
+    /// Where it grew, it takes rows as before.
+    ghost takes_more: { (a b : Self) (job : Job) (rows : List Val)
+        → takes a job → grew a b job rows → takes b job };
 }

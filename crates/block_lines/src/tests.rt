@@ -213,7 +213,11 @@ fn makes(
     match run(alloc, job, THREE, &entry(3, 1, 0), "", &mut lines) {
         Some((scanned, counted)) => {
             assert_eq!(rt; scanned, Ok(()), "{wanted}");
-            assert_eq!(rt; joined(alloc, &lines)?.as_slice(), wanted.as_bytes(), "{wanted}");
+            assert_eq!(rt;
+                joined(alloc, &lines)?.as_slice(),
+                wanted.as_bytes(),
+                "{wanted}"
+            );
             assert_eq!(rt; lines.len(), count, "{wanted}");
             assert_eq!(rt; counted.chunks(), 1, "{wanted}");
             assert_eq!(rt; counted.kept(), count as u64, "{wanted}");

@@ -124,8 +124,8 @@ made_text q rows single = ap (λ (ms : List Made). concat (map (λ (m : Made). l
 pub made_count : (q : Query) (rows : List Val) → is_grouped q ≡ false → length (made_lines q rows) ≡ length (passed q rows)
 made_count q rows single =
     ap (λ (ms : List Made). length (map (λ (m : Made). line_text m.output) ms)) (made_by_rows q rows single)
-    ∙ length-map (λ (m : Made). line_text m.output) (made_rows q (passed q rows))
-    ∙ length-map (made_row q) (passed q rows)
+    ∙ length-map (made_rows q (passed q rows)) (λ (m : Made). line_text m.output)
+    ∙ length-map (passed q rows) (made_row q)
 
 -- the rest of a list from a place on begins with what stands there
 pub rest_at : (ls : List (List ℕ)) (at : ℕ) (l : List ℕ) → Some l ≡ slice_get ls at → drop at ls ≡ l ∷ drop (suc at) ls

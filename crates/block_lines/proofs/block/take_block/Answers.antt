@@ -25,6 +25,11 @@ loop-first-init g c =
       kept_most = λ h. absurd (omega (arith, h));
     }
 
+pub take_chunk-requires-clause-takes : goal.take_chunk-requires-clause-takes
+take_chunk-requires-clause-takes g c =
+    let h = c.loop-first.invariant in
+    subst (g.S.RowSink.takes c.loop-first.sink) (sym h.job) (g.met.S.RowSink.takes_more c.args.sink.now c.loop-first.sink c.args.frame.now.job _ c.requires.takes h.rows)
+
 pub loop-first-preserved : goal.loop-first-preserved
 loop-first-preserved g c =
     let first = c.loop-first.first in
@@ -33,11 +38,11 @@ loop-first-preserved g c =
     let h = c.loop-first.invariant in
     let e = c.take_chunk.ensures in
     let here : length (kept_rows job (take first rows)) + length (kept_rows job (rows_from first rows)) ≡ length (kept_rows job (take (first + 16) rows)) =
-        sym (length-append (kept_rows job (take first rows)) (kept_rows job (rows_from first rows))) ∙ ap (λ (l : List Val). length l) (kept_split job first rows) in
+    sym (length-append (kept_rows job (take first rows)) (kept_rows job (rows_from first rows))) ∙ ap (λ (l : List Val). length l) (kept_split job first rows) in
     let grown = subst (λ (j : Job). g.S.RowSink.grew c.loop-first.sink c.take_chunk.new.sink j (kept_rows j (rows_from first rows))) h.job c.in_ok-take_chunk.ensures.rows in
     let both = g.met.S.RowSink.grew_by_both c.args.sink.now c.loop-first.sink c.take_chunk.new.sink job _ _ h.rows grown in
     let kept : c.take_chunk.new.frame.kept ≡ counted c.loop-first.frame.kept (length (kept_rows job (rows_from first rows))) =
-        e.kept ∙ ap (λ (j : Job). counted c.loop-first.frame.kept (length (kept_rows j (rows_from first rows)))) h.job in
+    e.kept ∙ ap (λ (j : Job). counted c.loop-first.frame.kept (length (kept_rows j (rows_from first rows)))) h.job in
     let next : first / 16 + 1 ≡ (first + 16) / 16 = omega arith in
     record {
       bound = still_bound c.args.block.now.0 c.loop-first.frame.job c.take_chunk.new.frame.job c.loop-first.frame.symbols c.take_chunk.new.frame.symbols e.job e.symbols h.bound;

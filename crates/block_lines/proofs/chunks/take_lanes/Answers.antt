@@ -1,4 +1,4 @@
-use Rattle.std.proofs.Common.{◌≡◌, true, false, sym, ap, subst, take, List, ◌∙◌, add-one}
+use Rattle.std.proofs.Common.{◌≡◌, true, false, sym, ap, subst, take, List, ◌∙◌, add-one, arith}
 use Rattle.std.specs.Prelude.{slice_get}
 use Rattle.value_meaning.specs.Val.{Val}
 use Rattle.lane_ssa.specs.ChunksOf.{rows_from}
@@ -12,6 +12,9 @@ use Rattle.block_lines.proofs.chunks.take_lanes.Goals.{then-has+in_ok-take, else
 
 pub loop-lane-init : goal.loop-lane-init
 loop-lane-init g c = g.met.S.RowSink.grew_by_none c.args.sink.now c.args.frame.now.job
+
+pub take-requires-clause-takes : goal.take-requires-clause-takes
+take-requires-clause-takes g c = g.met.S.RowSink.takes_more c.args.sink.now c.loop-lane.sink c.args.frame.now.job _ c.requires.takes c.loop-lane.invariant
 
 pub take-requires-clause-within : goal.take-requires-clause-within
 take-requires-clause-within g c =
@@ -40,5 +43,5 @@ pub returns : goal.returns
 returns g c =
     let job = c.args.frame.now.job in
     let rows = rows_from c.args.first c.args.block.now.1 in
-    let all = all_taken rows 16 (chunk_short c.args.block.now.1 c.args.first) in
+    let all = all_taken rows c.loop-lane.lane (omega (arith, c.loop-lane-test.false, chunk_short c.args.block.now.1 c.args.first)) in
     subst (λ (l : List Val). g.S.RowSink.grew c.args.sink.now c.loop-lane.sink job (kept_rows job l)) all c.loop-lane.invariant
