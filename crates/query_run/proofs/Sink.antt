@@ -1,16 +1,17 @@
 -- What a sink holds after a text, or some of it.
-use Rattle.std.proofs.Common.{◌≡◌, ℕ, zero, suc, length, List, [], map, Option, Some, None, Result, Ok, Err, refl, sym, ◌∙◌, ap, arith, ◌++◌, ◌∷◌, take, drop, append_assoc, take-append-drop, false}
+use Rattle.std.proofs.Common.{◌≡◌, ℕ, zero, suc, length, List, [], map, Option, Some, None, Result, Ok, Err, refl, sym, ◌∙◌, ap, arith, ◌++◌, ◌∷◌, take, drop, append_assoc, take-append-drop, false, subst, ◌≤◌, ◌+◌, add-one}
 use Rattle.std.proofs.lemmas.List.{append-nil, length-map}
+use Rattle.std.proofs.lemmas.List.Sums.{length-filter, count_by-le-length}
 use Rattle.std.specs.List.{concat}
 use Rattle.std.specs.Prelude.{slice_get}
 use Rattle.std.specs.Io.KnownBytes.{Appends, Keeps}
 use Rattle.value_meaning.specs.Val.{Val}
 use Rattle.tree_meaning.specs.Tree.{Query}
-use Rattle.eval_meaning.specs.Passed.{passed}
+use Rattle.eval_meaning.specs.Passed.{passed, is_kept}
 use Rattle.made_meaning.specs.MadeRows.{output_of, made_row, made_rows}
 use Rattle.made_meaning.proofs.Ungrouped.{made_by_rows}
 use Rattle.check_meaning.specs.Aggregates.{is_grouped}
-use Rattle.eval_meaning.specs.Pair.{Pair}
+use Rattle.eval_meaning.specs.Pair.{Pair, alone}
 use Rattle.answer_meaning.specs.Made.{Made}
 use Rattle.answer_meaning.specs.Lines.{line_text, print}
 use Rattle.block_lines.specs.RowLines.{made_lines}
@@ -127,8 +128,23 @@ made_count q rows single =
     ∙ length-map (made_rows q (passed q rows)) (λ (m : Made). line_text m.output)
     ∙ length-map (passed q rows) (made_row q)
 
+-- the same of the same text, otherwise spelled
+pub whole_as : {A B E F : Type 0} (a : A) (b : B) (old new : Option (List ℕ)) (text other : List ℕ) → text ≡ other → Writes {T = A} {E = E} (Ok a) old new text → Writes {T = B} {E = F} (Ok b) old new other
+whole_as a b old new text other e w = still_whole a b old new other (subst (λ (t : List ℕ). Writes (Ok a) old new t) e w)
+
+pub cut_as : {A B E F : Type 0} (r : Result A E) (f : F) (old new : Option (List ℕ)) (text other : List ℕ) → text ≡ other → Writes r old new text → Writes {T = B} {E = F} (Err f) old new other
+cut_as r f old new text other e w = as_cut r f old new other (subst (λ (t : List ℕ). Writes r old new t) e w)
+
+-- no more rows pass than there are
+pub few_passed : (q : Query) (rows : List Val) → length (passed q rows) ≤ length rows
+few_passed q rows =
+    omega (arith, length-filter (is_kept q.filter) (map alone rows), count_by-le-length (is_kept q.filter) (map alone rows), length-map rows alone)
+
 -- the rest of a list from a place on begins with what stands there
-pub rest_at : (ls : List (List ℕ)) (at : ℕ) (l : List ℕ) → Some l ≡ slice_get ls at → drop at ls ≡ l ∷ drop (suc at) ls
-rest_at [] at l e = absurd (cc)
-rest_at (x ∷ ls) zero l e = let same : x ≡ l = cc in ap (λ (y : List ℕ). y ∷ ls) same
-rest_at (x ∷ ls) (suc at) l e = rest_at ls at l e
+rest_at_suc : (ls : List (List ℕ)) (at : ℕ) (l : List ℕ) → Some l ≡ slice_get ls at → drop at ls ≡ l ∷ drop (suc at) ls
+rest_at_suc [] at l e = absurd (cc)
+rest_at_suc (x ∷ ls) zero l e = let same : x ≡ l = cc in ap (λ (y : List ℕ). y ∷ ls) same
+rest_at_suc (x ∷ ls) (suc at) l e = rest_at_suc ls at l e
+
+pub rest_at : (ls : List (List ℕ)) (at : ℕ) (l : List ℕ) → Some l ≡ slice_get ls at → drop at ls ≡ l ∷ drop (at + 1) ls
+rest_at ls at l e = rw add-one (rest_at_suc ls at l e)
