@@ -130,7 +130,7 @@ made_count q rows single =
 
 -- the same of the same text, otherwise spelled
 pub whole_as : {A B E F : Type 0} (a : A) (b : B) (old new : Option (List ℕ)) (text other : List ℕ) → text ≡ other → Writes {T = A} {E = E} (Ok a) old new text → Writes {T = B} {E = F} (Ok b) old new other
-whole_as a b old new text other e w = still_whole a b old new other (subst (λ (t : List ℕ). Writes (Ok a) old new t) e w)
+whole_as {A = A} {E = E} a b old new text other e w = still_whole a b old new other (subst (λ (t : List ℕ). Writes {T = A} {E = E} (Ok a) old new t) e w)
 
 pub cut_as : {A B E F : Type 0} (r : Result A E) (f : F) (old new : Option (List ℕ)) (text other : List ℕ) → text ≡ other → Writes r old new text → Writes {T = B} {E = F} (Err f) old new other
 cut_as r f old new text other e w = as_cut r f old new other (subst (λ (t : List ℕ). Writes r old new t) e w)
