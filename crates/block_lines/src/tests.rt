@@ -340,7 +340,8 @@ fn a_bad_block_adds_nothing(rt: HostRuntime) -> Result<(), Fail> {
     for (lacks, rows, least, greatest, field, wanted) in SCANS {
         let mut lines = Lines::new(rt.alloc());
         lines.push(b"before\n")?;
-        let bytes = &TIMES[..TIMES.len() - lacks];
+        let length = TIMES.len().saturating_sub(lacks);
+        let bytes = TIMES.get(..length).unwrap_or(b"");
         let of = entry(rows, least, greatest);
         match run(rt.alloc(), &all, bytes, &of, field, &mut lines) {
             Some((scanned, _)) => assert_eq!(rt; scanned, wanted),
