@@ -6,5 +6,6 @@ pub mod LineBytes
 pub mod RowAt
 pub mod Kept
 pub mod KeptRows
+pub mod KeyedRows
 pub mod ChunkByChunk
 pub mod Opened

@@ -7,6 +7,7 @@ mod block;
 mod chunks;
 mod fault;
 mod heads;
+mod keyed;
 mod line_list;
 mod one_line;
 mod pairs;
@@ -14,11 +15,14 @@ mod scanning;
 mod sink;
 #[cfg(test)]
 mod tests;
+mod values;
 
 pub use block::take_block;
 pub use fault::ScanFault;
 pub use heads::LineHeads;
+pub use keyed::scan_keyed;
 pub use line_list::Lines;
 pub use pairs::append_look;
 pub use scanning::{scan_block, scan_rows};
 pub use sink::RowSink;
+pub use values::look_value;
