@@ -59,32 +59,32 @@ text_ends sql names told (Damaged f b) a h = absurd h
 text_ends sql names told ReadFault a h = absurd h
 text_ends sql names told WriteFault a h = absurd h
 
-pub text_cause : {A : Type 0} (sql : List ℕ) (names : List (List ℕ)) (told : Option Contents) (fault : QueryFault) → SaysOfText sql fault → HasItsCause {A = A} sql names told (Err fault)
-text_cause sql names told (Text f) h = h
-text_cause sql names told OutOfMemory h = tt
-text_cause sql names told (Absent k) h = absurd h
-text_cause sql names told (NotAFile k) h = absurd h
-text_cause sql names told (Damaged f b) h = absurd h
-text_cause sql names told ReadFault h = absurd h
-text_cause sql names told WriteFault h = absurd h
+pub text_cause : (A : Type 0) (sql : List ℕ) (names : List (List ℕ)) (told : Option Contents) (fault : QueryFault) → SaysOfText sql fault → HasItsCause {A = A} sql names told (Err fault)
+text_cause A sql names told (Text f) h = h
+text_cause A sql names told OutOfMemory h = tt
+text_cause A sql names told (Absent k) h = absurd h
+text_cause A sql names told (NotAFile k) h = absurd h
+text_cause A sql names told (Damaged f b) h = absurd h
+text_cause A sql names told ReadFault h = absurd h
+text_cause A sql names told WriteFault h = absurd h
 
-pub text_quiet : {A : Type 0} (sql : List ℕ) (fault : QueryFault) (a : Option (List ℕ)) → SaysOfText sql fault → IsQuiet {A = A} (Err fault) a a
-text_quiet sql (Text f) a h = Keeps-same a
-text_quiet sql OutOfMemory a h = tt
-text_quiet sql (Absent k) a h = absurd h
-text_quiet sql (NotAFile k) a h = absurd h
-text_quiet sql (Damaged f b) a h = absurd h
-text_quiet sql ReadFault a h = absurd h
-text_quiet sql WriteFault a h = absurd h
+pub text_quiet : (A : Type 0) (sql : List ℕ) (fault : QueryFault) (a : Option (List ℕ)) → SaysOfText sql fault → IsQuiet {A = A} (Err fault) a a
+text_quiet A sql (Text f) a h = Keeps-same a
+text_quiet A sql OutOfMemory a h = tt
+text_quiet A sql (Absent k) a h = absurd h
+text_quiet A sql (NotAFile k) a h = absurd h
+text_quiet A sql (Damaged f b) a h = absurd h
+text_quiet A sql ReadFault a h = absurd h
+text_quiet A sql WriteFault a h = absurd h
 
-pub text_stops : {A : Type 0} (sql : List ℕ) (names : List (List ℕ)) (told : Option Contents) (fault : QueryFault) (before now : ℕ) (a : Option (List ℕ)) → SaysOfText sql fault → (q : Query) → Accepts sql q → StopsSo {A = A} q names told (Err fault) before now a a
-text_stops sql names told (Text f) before now a h q accepts = tt
-text_stops sql names told OutOfMemory before now a h q accepts = tt
-text_stops sql names told (Absent k) before now a h q accepts = absurd h
-text_stops sql names told (NotAFile k) before now a h q accepts = absurd h
-text_stops sql names told (Damaged f b) before now a h q accepts = absurd h
-text_stops sql names told ReadFault before now a h q accepts = absurd h
-text_stops sql names told WriteFault before now a h q accepts = absurd h
+pub text_stops : (A : Type 0) (sql : List ℕ) (names : List (List ℕ)) (told : Option Contents) (fault : QueryFault) (before now : ℕ) (a : Option (List ℕ)) → SaysOfText sql fault → (q : Query) → Accepts sql q → StopsSo {A = A} q names told (Err fault) before now a a
+text_stops A sql names told (Text f) before now a h q accepts = tt
+text_stops A sql names told OutOfMemory before now a h q accepts = tt
+text_stops A sql names told (Absent k) before now a h q accepts = absurd h
+text_stops A sql names told (NotAFile k) before now a h q accepts = absurd h
+text_stops A sql names told (Damaged f b) before now a h q accepts = absurd h
+text_stops A sql names told ReadFault before now a h q accepts = absurd h
+text_stops A sql names told WriteFault before now a h q accepts = absurd h
 
 pub text_reads : (sql : List ℕ) (names : List (List ℕ)) (told : Option Contents) (n : ℕ) → Reads sql names told n n
 text_reads sql names told n = record { later = omega arith; refused = λ r. refl; accepted = λ q accepts files is v cost found costs. omega arith }

@@ -154,11 +154,11 @@ files_cause q names told (against.NotAFile k) h = h
 files_cause q names told against.ReadFault h = h
 files_cause q names told against.OutOfMemory h = tt
 
-pub files_quiet : {A : Type 0} (fault : FilesFault) (a : Option (List ℕ)) → IsQuiet {A = A} (Err (query_fault fault)) a a
-files_quiet (against.Absent k) a = Keeps-same a
-files_quiet (against.NotAFile k) a = Keeps-same a
-files_quiet against.ReadFault a = tt
-files_quiet against.OutOfMemory a = tt
+pub files_quiet : (A : Type 0) (fault : FilesFault) (a : Option (List ℕ)) → IsQuiet {A = A} (Err (query_fault fault)) a a
+files_quiet A (against.Absent k) a = Keeps-same a
+files_quiet A (against.NotAFile k) a = Keeps-same a
+files_quiet A against.ReadFault a = tt
+files_quiet A against.OutOfMemory a = tt
 
 -- the bytes of tails and indexes alone are within each cost
 pub files_cost : (q : Query) (names : List (List ℕ)) (told : Option Contents) (before now : ℕ) → ForSome told (λ files. now ≤ before + index_costs files names) → StaysWithin q names told before now
@@ -177,11 +177,11 @@ none_whole q plain a =
     adds_whole q plain [] (made_lines q []) a a refl (subst (λ (l : List (List ℕ)). Appends a a (text_of l)) (sym none) (Appends-nothing a))
 
 -- nothing was scanned where the indexes couldn't be read
-pub files_stop : {A : Type 0} (q : Query) → is_plain q ≡ true → (names : List (List ℕ)) (told : Option Contents) (fault : FilesFault) (before now : ℕ) (a : Option (List ℕ)) → ForSome told (λ files. now ≤ before + index_costs files names) → StopsSo {A = A} q names told (Err (query_fault fault)) before now a a
-files_stop q plain names told (against.Absent k) before now a most = tt
-files_stop q plain names told (against.NotAFile k) before now a most = tt
-files_stop q plain names told against.OutOfMemory before now a most = tt
-files_stop q plain names told against.ReadFault before now a most = λ t files is bs n found.
+pub files_stop : (A : Type 0) (q : Query) → is_plain q ≡ true → (names : List (List ℕ)) (told : Option Contents) (fault : FilesFault) (before now : ℕ) (a : Option (List ℕ)) → ForSome told (λ files. now ≤ before + index_costs files names) → StopsSo {A = A} q names told (Err (query_fault fault)) before now a a
+files_stop A q plain names told (against.Absent k) before now a most = tt
+files_stop A q plain names told (against.NotAFile k) before now a most = tt
+files_stop A q plain names told against.OutOfMemory before now a most = tt
+files_stop A q plain names told against.ReadFault before now a most = λ t files is bs n found.
     let le = most files is in
     record { batches = 0; told = λ i grown. absurd (omega arith); wrote = none_whole q plain a }
 
@@ -322,16 +322,16 @@ module _ (q : Query) (plain : is_plain q ≡ true) (names : List (List ℕ)) (to
   scan_cause some (Err stops.WriteFault) before now chunks kept old new h = found_scan (λ bs. Unit {0}) (λ files is. tt)
   scan_cause some (Err stops.OutOfMemory) before now chunks kept old new h = tt
 
-  pub scan_stop : {A : Type 0} (fault : ScanFault) (start before now chunks kept : ℕ) (old new : Option (List ℕ)) → ForSome told (λ files. before ≤ start + index_costs files names) → Outcome (Err fault) before now chunks kept old new → StopsSo {A = A} q names told (Err (scan_fault fault)) start now old new
-  scan_stop (stops.Damaged file block) start before now chunks kept old new cost h = λ t. found_scan (λ bs. (b : Block) × IsNumbered b file block × StopsAt q bs b old new) (λ files is. h files is)
-  scan_stop stops.ReadFault start before now chunks kept old new cost h = λ t files is bs n found.
+  pub scan_stop : (A : Type 0) (fault : ScanFault) (start before now chunks kept : ℕ) (old new : Option (List ℕ)) → ForSome told (λ files. before ≤ start + index_costs files names) → Outcome (Err fault) before now chunks kept old new → StopsSo {A = A} q names told (Err (scan_fault fault)) start now old new
+  scan_stop A (stops.Damaged file block) start before now chunks kept old new cost h = λ t. found_scan (λ bs. (b : Block) × IsNumbered b file block × StopsAt q bs b old new) (λ files is. h files is)
+  scan_stop A stops.ReadFault start before now chunks kept old new cost h = λ t files is bs n found.
       let same = (scan_is files is bs n found).0 in
       let k = h files is in
       let le = cost files is in
       let own : StopsReading q (blocks_at files names fields places) (index_costs files names) start now old new = record { batches = k.batches; told = λ i grown. k.told i (omega arith); wrote = k.wrote } in
       subst (λ (l : List Block). StopsReading q l (index_costs files names) start now old new) (sym same) own
-  scan_stop stops.WriteFault start before now chunks kept old new cost h = tt
-  scan_stop stops.OutOfMemory start before now chunks kept old new cost h = tt
+  scan_stop A stops.WriteFault start before now chunks kept old new cost h = tt
+  scan_stop A stops.OutOfMemory start before now chunks kept old new cost h = tt
 
   pub scan_cost : (start before now : ℕ) → ForSome told (λ files. before ≤ start + index_costs files names) → ForSome told (λ files. (count : ℕ) → Counts q (blocks_at files names fields places) count → now ≤ before + size_of (front count (blocks_at files names fields places))) → StaysWithin q names told start now
   scan_cost start before now indexes blocks = λ files is v cost found costs. on files is v cost (is_scan files is v found) costs
@@ -371,8 +371,8 @@ module _ (q : Query) (plain : is_plain q ≡ true) (names : List (List ℕ)) (to
         done = subst (λ (b : List Block). (count : ℕ) → Counts q b count → SumsTo q (front count b) sum) (sym same.0) done;
       }
 
-pub scan_quiet : {A : Type 0} (fault : ScanFault) (old new : Option (List ℕ)) → IsQuiet {A = A} (Err (scan_fault fault)) old new
-scan_quiet (stops.Damaged file block) old new = tt
-scan_quiet stops.ReadFault old new = tt
-scan_quiet stops.WriteFault old new = tt
-scan_quiet stops.OutOfMemory old new = tt
+pub scan_quiet : (A : Type 0) (fault : ScanFault) (old new : Option (List ℕ)) → IsQuiet {A = A} (Err (scan_fault fault)) old new
+scan_quiet A (stops.Damaged file block) old new = tt
+scan_quiet A stops.ReadFault old new = tt
+scan_quiet A stops.WriteFault old new = tt
+scan_quiet A stops.OutOfMemory old new = tt

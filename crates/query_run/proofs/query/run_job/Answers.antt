@@ -22,9 +22,9 @@ returns-in-Err-clause-cause g c =
 
 pub returns-in-Err-clause-quiet : goal.returns-in-Err-clause-quiet
 returns-in-Err-clause-quiet g c =
-    subst (λ (r : QueryFault). IsQuiet {A = QuerySum} (Err r) (g.O.Out.holds c.args.out.now) (g.O.Out.holds c.args.out.now)) (sym c.of_files.ensures) (files_quiet {A = QuerySum} c.in-Err.fault _)
+    subst (λ (r : QueryFault). IsQuiet {A = QuerySum} (Err r) (g.O.Out.holds c.args.out.now) (g.O.Out.holds c.args.out.now)) (sym c.of_files.ensures) (files_quiet QuerySum c.in-Err.fault _)
 
 pub returns-in-Err-clause-stopped : goal.returns-in-Err-clause-stopped
 returns-in-Err-clause-stopped g c =
     subst (λ (r : QueryFault). StopsSo {A = QuerySum} (query_view c.args.query.now) c.args.names.now (g.F.Files.told c.args.files.now) (Err r) (g.F.Files.taken c.args.files.now) (g.F.Files.taken c.find_places.new.files) (g.O.Out.holds c.args.out.now) (g.O.Out.holds c.args.out.now)) (sym c.of_files.ensures)
-    (files_stop {A = QuerySum} (query_view c.args.query.now) c.requires.plain c.args.names.now _ c.in-Err.fault _ _ _ c.find_places.ensures.cost)
+    (files_stop QuerySum (query_view c.args.query.now) c.requires.plain c.args.names.now _ c.in-Err.fault _ _ _ c.find_places.ensures.cost)
