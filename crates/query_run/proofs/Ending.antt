@@ -285,24 +285,36 @@ module _ (q : Query) (plain : is_plain q ≡ true) (names : List (List ℕ)) (to
   pub all_placed : (mid : Option Contents) (seen : List Place) → mid ≡ told → seen ≡ places → ForSome mid (λ files. All (λ p. IsPlaced files names p) seen)
   all_placed mid seen same is_seen = λ files is. subst (λ (l : List Place). All (λ p. IsPlaced files names p) l) (sym is_seen) (surveyed files (sym same ∙ is)).placed
 
-  module _ (mid : Option Contents) (seen : List Place) (same : mid ≡ told) (lent : seen ≡ places) (r : Result Done ScanFault) (start before now chunks kept : ℕ) (old new : Option (List ℕ)) (outcome : ForSome mid (λ files. ScansTo q (blocks_at files names fields seen) r before now chunks kept old new)) where
-    came_to : (files : Contents) → told ≡ Some files → ScansTo q (blocks_at files names fields places) r before now chunks kept old new
-    came_to files is = subst (λ (l : List Place). ScansTo q (blocks_at files names fields l) r before now chunks kept old new) lent (outcome files (same ∙ is))
+  -- what the scan came to, and what it read at most
+  abbrev Outcome : Result Done ScanFault → ℕ → ℕ → ℕ → ℕ → Option (List ℕ) → Option (List ℕ) → Type 0
+  Outcome r before now chunks kept old new = ForSome told (λ files. ScansTo q (blocks_at files names fields places) r before now chunks kept old new)
 
-    pub ends : ((added : List ℕ) × Appends old new added) → (v : Verdict) → Finds q names told v → EndsAs q v (stop_status r) old new
-    ends took v found = on told refl found
-      where
-        on : (t : Option Contents) → told ≡ t → Finds q names t v → EndsAs q v (stop_status r) old new
-        on None is f = subst (λ (w : Verdict). EndsAs q w (stop_status r) old new) (sym f) record { allowed = also r; wrote = took }
-        on (Some files) is f = subst (λ (w : Verdict). EndsAs q w (stop_status r) old new) (sym (is_scan files is v f)) record { allowed = allowed r (blocks_at files names fields places) left_out; wrote = scan_ends q plain (blocks_at files names fields places) r before now chunks kept old new (came_to files is) }
+  abbrev Reading : ℕ → ℕ → Type 0
+  Reading before now = ForSome told (λ files. (count : ℕ) → Counts q (blocks_at files names fields places) count → now ≤ before + size_of (front count (blocks_at files names fields places)))
+
+  -- the same, told of the query, the files and the places as they were handed on
+  module _ (p : Query) (mid : Option Contents) (seen : List Place) (asked : p ≡ q) (same : mid ≡ told) (lent : seen ≡ places) where
+    pub came_to : (r : Result Done ScanFault) (before now chunks kept : ℕ) (old new : Option (List ℕ)) → ForSome mid (λ files. ScansTo p (blocks_at files names fields seen) r before now chunks kept old new) → Outcome r before now chunks kept old new
+    came_to r before now chunks kept old new outcome = λ files is.
+        subst (λ (l : List Place). ScansTo q (blocks_at files names fields l) r before now chunks kept old new) lent
+        (subst (λ (o : Query). ScansTo o (blocks_at files names fields seen) r before now chunks kept old new) asked (outcome files (same ∙ is)))
+
+    pub read_most : (before now : ℕ) → ForSome mid (λ files. (count : ℕ) → Counts p (blocks_at files names fields seen) count → now ≤ before + size_of (front count (blocks_at files names fields seen))) → Reading before now
+    read_most before now most = λ files is.
+        subst (λ (l : List Place). (count : ℕ) → Counts q (blocks_at files names fields l) count → now ≤ before + size_of (front count (blocks_at files names fields l))) lent
+        (subst (λ (o : Query). (count : ℕ) → Counts o (blocks_at files names fields seen) count → now ≤ before + size_of (front count (blocks_at files names fields seen))) asked (most files (same ∙ is)))
+
+  pub ends : (r : Result Done ScanFault) (before now chunks kept : ℕ) (old new : Option (List ℕ)) → Outcome r before now chunks kept old new → ((added : List ℕ) × Appends old new added) → (v : Verdict) → Finds q names told v → EndsAs q v (stop_status r) old new
+  ends r before now chunks kept old new outcome took v found = on told refl found
+    where
+      on : (t : Option Contents) → told ≡ t → Finds q names t v → EndsAs q v (stop_status r) old new
+      on None is f = subst (λ (w : Verdict). EndsAs q w (stop_status r) old new) (sym f) record { allowed = also r; wrote = took }
+      on (Some files) is f = subst (λ (w : Verdict). EndsAs q w (stop_status r) old new) (sym (is_scan files is v f)) record { allowed = allowed r (blocks_at files names fields places) left_out; wrote = scan_ends q plain (blocks_at files names fields places) r before now chunks kept old new (outcome files is) }
 
   -- what the answer says of the files, by cases
   abbrev SaysOf : Result Done ScanFault → Type 0
   SaysOf (Ok d) = OfScan q names told (λ bs. MayPass q bs)
   SaysOf (Err fault) = says.SaysOfFiles q names told (scan_fault fault)
-
-  abbrev Outcome : Result Done ScanFault → ℕ → ℕ → ℕ → ℕ → Option (List ℕ) → Option (List ℕ) → Type 0
-  Outcome r before now chunks kept old new = ForSome told (λ files. ScansTo q (blocks_at files names fields places) r before now chunks kept old new)
 
   found_scan : (P : List Block → Type 0) → ((files : Contents) → told ≡ Some files → P (blocks_at files names fields places)) → OfScan q names told P
   found_scan P h = λ files is. (blocks_at files names fields places, (left_out, finds_scan files is), h files is)
@@ -333,7 +345,7 @@ module _ (q : Query) (plain : is_plain q ≡ true) (names : List (List ℕ)) (to
   scan_stop A stops.WriteFault start before now chunks kept old new cost h = tt
   scan_stop A stops.OutOfMemory start before now chunks kept old new cost h = tt
 
-  pub scan_cost : (start before now : ℕ) → ForSome told (λ files. before ≤ start + index_costs files names) → ForSome told (λ files. (count : ℕ) → Counts q (blocks_at files names fields places) count → now ≤ before + size_of (front count (blocks_at files names fields places))) → StaysWithin q names told start now
+  pub scan_cost : (start before now : ℕ) → ForSome told (λ files. before ≤ start + index_costs files names) → Reading before now → StaysWithin q names told start now
   scan_cost start before now indexes blocks = λ files is v cost found costs. on files is v cost (is_scan files is v found) costs
     where
       on : (files : Contents) → told ≡ Some files → (v : Verdict) (cost : ℕ) → v ≡ scan (blocks_at files names fields places) left_out → Costs q files names v cost → now ≤ start + cost
@@ -371,8 +383,3 @@ module _ (q : Query) (plain : is_plain q ≡ true) (names : List (List ℕ)) (to
         done = subst (λ (b : List Block). (count : ℕ) → Counts q b count → SumsTo q (front count b) sum) (sym same.0) done;
       }
 
-pub scan_quiet : (A : Type 0) (fault : ScanFault) (old new : Option (List ℕ)) → IsQuiet {A = A} (Err (scan_fault fault)) old new
-scan_quiet A (stops.Damaged file block) old new = tt
-scan_quiet A stops.ReadFault old new = tt
-scan_quiet A stops.WriteFault old new = tt
-scan_quiet A stops.OutOfMemory old new = tt
