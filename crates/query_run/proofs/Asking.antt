@@ -1,32 +1,25 @@
 -- From a text to its query: what a text gives rise to that is refused, and what its one query gives rise to that is accepted.
-use Rattle.std.proofs.Common.{◌≡◌, ℕ, Bool, true, false, ◌&&◌, ◌≤◌, List, [], length, Option, Some, None, refl, sym, ap, ◌∙◌, subst, arith}
-use Rattle.std.specs.Prelude.{Result, Ok, Err, IfOk, not, ◌==◌}
-use Rattle.std.specs.Option.{ForSome}
-use Rattle.std.specs.Io.KnownBytes.{Keeps}
-use Rattle.std.proofs.lemmas.Bool.Decides.{nat_tests}
+use Rattle.std.proofs.Common.{◌≡◌, ℕ, Bool, true, ◌&&◌, ◌≤◌, List, [], length, Option, None, refl, ap, ◌∙◌, subst, arith}
+use Rattle.std.specs.Prelude.{Result, Ok, Err, not, ◌==◌}
 use Rattle.snel_device.specs.Contents.{Contents}
 use Rattle.tree_meaning.specs.Tree.{Query}
-use Rattle.check_meaning.specs.Aggregates.{is_grouped}
 use Rattle.query_meaning.specs.Faults.{ComesTo, is_query}
 use Rattle.program_meaning.specs.Jobs.{Job}
 use Rattle.program_meaning.specs.Simulation.{Simulates}
 use Rattle.plan_lower.specs.Forms.{is_lowered}
 use Rattle.plan_lower.proofs.PlainQueries.{is_ungrouped}
 use Rattle.scan_meaning.specs.Batches.{is_plain, MayPass}
-use Rattle.scan_meaning.specs.Verdicts.{Verdict, Finds, IsAmong, statuses}
+use Rattle.scan_meaning.specs.Verdicts.{Verdict, Finds}
 use Rattle.scan_meaning.specs.Answers.{EndsAs}
 use Rattle.scan_meaning.specs.Causes.{StaysWithin}
-use Rattle.scan_meaning.specs.Headline.{AnswersFiles}
 use Rattle.scan_meaning.proofs.Ended.{ended_is_answered}
-use Rattle.query_run.specs.Queries.{Accepts, IsAccepted, IsRefused, Refuses}
+use Rattle.query_run.specs.Queries.{Accepts, IsRefused}
 use Rattle.query_run.specs.TextFaults.{refused_view}
 use Rattle.query_run.specs.Jobs.{Compiles}
-use Rattle.query_run.specs.Statuses.{status_of, status_after}
+use Rattle.query_run.specs.Statuses.{status_of}
 use Rattle.query_run.specs.Headline.{Headline}
 use Rattle.query_run.specs.Ends.{Ends, Reads}
 use Rattle.query_run.specs.Faults.{SaysOfText, SaysOfQuery, HasItsCause, IsQuiet, StopsSo, OfScan}
-use Rattle.query_run.specs.Sums.{SumsUp}
-use Rattle.query_run.specs.declared.sum.QuerySum.{QuerySum}
 use Rattle.query_run.specs.declared.query_fault.QueryFault.{QueryFault}
 use Rattle.query_run.specs.declared.query_fault.QueryFault.TheVariants.{Text, Absent, NotAFile, Damaged, ReadFault, WriteFault, OutOfMemory}
 use Rattle.query_run.proofs.Built.{one_accepted, not_both, same_query}

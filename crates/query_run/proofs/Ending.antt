@@ -1,14 +1,13 @@
 -- How a query ends that is accepted and plain.
-use Rattle.std.proofs.Common.{◌≡◌, ◌⊎◌, inl, inr, ℕ, zero, suc, ◌+◌, ◌*◌, ◌≤◌, ◌<◌, true, List, [], ◌∷◌, ◌++◌, length, take, drop, map, Option, Some, None, refl, sym, ap, ◌∙◌, subst, arith, take-append-drop}
-use Rattle.std.specs.Prelude.{slice_get, unwrap_or, IsPermutation, All, Result, Ok, Err, IsTrue}
+use Rattle.std.proofs.Common.{◌≡◌, ◌⊎◌, inl, inr, ℕ, zero, suc, ◌+◌, ◌*◌, ◌≤◌, true, List, [], ◌∷◌, ◌++◌, length, drop, map, Option, Some, None, refl, sym, ap, ◌∙◌, subst, arith, take-append-drop}
+use Rattle.std.specs.Prelude.{unwrap_or, IsPermutation, All, Result, Ok, Err}
 use Rattle.std.specs.Option.{ForSome}
-use Rattle.std.specs.Io.KnownBytes.{Appends, Keeps}
+use Rattle.std.specs.Io.KnownBytes.{Appends}
 use Rattle.std.proofs.Math.Logic.{⊎_elim}
 use Rattle.std.proofs.lemmas.List.{take_all, drop_all, length-drop, length-take}
-use Rattle.std.specs.Prelude.{min}
 use Rattle.snel_device.specs.Causes.{raised}
 use Rattle.answer_meaning.specs.Answers.{limited}
-use Rattle.query_run.specs.Sums.{SumsTo, Sums, SumsUp}
+use Rattle.query_run.specs.Sums.{SumsTo, SumsUp}
 use Rattle.query_run.specs.declared.sum.QuerySum.{QuerySum}
 use Rattle.std.proofs.lemmas.List.Sorted.{IsPermutation-refl}
 use Rattle.snel_device.specs.Contents.{Contents}
@@ -17,10 +16,10 @@ use Rattle.tree_meaning.specs.Tree.{Query}
 use Rattle.answer_meaning.specs.Made.{Made}
 use Rattle.made_meaning.specs.MadeRows.{made}
 use Rattle.scan_meaning.specs.Blocks.{Place, Block}
-use Rattle.scan_meaning.specs.Batches.{rows_of, first_bad, front, size_of, is_plain, need, count_passed, IsShort, Counts, IsFirstBad, MayPass}
+use Rattle.scan_meaning.specs.Batches.{rows_of, front, size_of, is_plain, need, count_passed, IsShort, Counts, IsFirstBad, MayPass}
 use Rattle.scan_meaning.specs.Opened.{Opened, Named, absent, no_file, opened, IsNamed, AreNamed, blocks_from}
-use Rattle.scan_meaning.specs.Verdicts.{Verdict, no_such_file, no_block_file, scan, untold, refusal, wanted, skipped, verdict_of, FindsInFiles, Finds, statuses, IsAmong}
-use Rattle.scan_meaning.specs.Answers.{IsPrefix, AddsAnswer, AddsWhole, EndsScan, EndsAs, StopsAt, StopsReading}
+use Rattle.scan_meaning.specs.Verdicts.{Verdict, no_such_file, no_block_file, scan, untold, refusal, wanted, skipped, FindsInFiles, Finds, statuses, IsAmong}
+use Rattle.scan_meaning.specs.Answers.{AddsAnswer, AddsWhole, EndsScan, EndsAs, StopsAt, StopsReading}
 use Rattle.scan_meaning.specs.Causes.{IsFirst, index_costs, Costs, StaysWithin}
 use Rattle.scan_meaning.proofs.Batches.{one_count, rows-append}
 use Rattle.scan_meaning.proofs.Named.{one_verdict, first_refused, no_refusal, IsRefused}
@@ -37,11 +36,9 @@ use Rattle.scan_batches.specs.Outcome.{ScansTo, Finished}
 use Rattle.scan_batches.specs.declared.scan.Done.{Done}
 use Rattle.scan_batches.specs.declared.fault.ScanFault.{ScanFault}
 use Rattle.scan_batches.specs.declared.fault.ScanFault.TheVariants as stops
-use Rattle.query_run.specs.Statuses.{status_of, status_after}
+use Rattle.query_run.specs.Statuses.{status_of}
 use Rattle.query_run.specs.Faults as says
 use Rattle.query_run.specs.Faults.{OfScan, IsQuiet, StopsSo, SaysOfQuery, query_fault, scan_fault}
-use Rattle.query_run.specs.declared.query_fault.QueryFault.{QueryFault}
-use Rattle.query_run.specs.declared.query_fault.QueryFault.TheVariants.{Text, Absent, NotAFile, Damaged, ReadFault, WriteFault, OutOfMemory}
 use Rattle.query_run.proofs.Plain.{nothing}
 use Rattle.query_run.proofs.Sink.{Keeps-same, Appends-nothing}
 

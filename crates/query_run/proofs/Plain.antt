@@ -1,7 +1,6 @@
 -- Answers of a query that neither groups nor sorts.
-use Rattle.std.proofs.Common.{◌≡◌, ℕ, Bool, false, List, [], map, drop, Option, refl, sym, ap, subst}
+use Rattle.std.proofs.Common.{◌≡◌, ℕ, Bool, List, [], map, drop, Option, refl, sym, ap, subst}
 use Rattle.std.specs.Prelude.{IsPermutation, IsSortedByKey}
-use Rattle.std.specs.Io.KnownBytes.{Appends}
 use Rattle.std.proofs.lemmas.List.Sorted.{IsPermutation-refl}
 use Rattle.value_meaning.specs.Val.{Val}
 use Rattle.tree_meaning.specs.Tree.{Ex, Query}

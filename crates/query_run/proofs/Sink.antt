@@ -1,5 +1,5 @@
 -- What a sink holds that took nothing.
-use Rattle.std.proofs.Common.{◌≡◌, ℕ, List, [], Option, Some, None, refl, sym, ◌∙◌}
+use Rattle.std.proofs.Common.{ℕ, List, [], Option, Some, None, refl, sym}
 use Rattle.std.proofs.lemmas.List.{append-nil}
 use Rattle.std.specs.Io.KnownBytes.{Appends, Keeps}
 

@@ -1,5 +1,5 @@
 -- What each fault says of the text, the names and the files.
-use Rattle.std.specs.Prelude.{◌≡◌, ℕ, IsTrue, List, ⊤, Option, Some, None, Result, Ok, Err}
+use Rattle.std.specs.Prelude.{ℕ, IsTrue, List, ⊤, Option, Some, Result, Ok, Err}
 use Rattle.std.specs.Option.{ForSome}
 use Rattle.std.specs.Io.KnownBytes.{Keeps}
 use Rattle.snel_device.specs.Contents.{Contents}

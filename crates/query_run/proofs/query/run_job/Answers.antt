@@ -1,4 +1,4 @@
-use Rattle.std.proofs.Common.{◌≡◌, ◌∙◌, ℕ, List, refl, sym, ap, subst, Option}
+use Rattle.std.proofs.Common.{refl, sym, ap, subst}
 use Rattle.std.specs.Prelude.{Err, Ok}
 use Rattle.query_tree.specs.Queries.{query_view}
 use Rattle.scan_meaning.specs.Answers.{EndsAs}
@@ -7,7 +7,7 @@ use Rattle.query_run.specs.Faults as says
 use Rattle.query_run.specs.Faults.{IsQuiet, StopsSo}
 use Rattle.query_run.specs.declared.sum.QuerySum.{QuerySum}
 use Rattle.query_run.specs.declared.query_fault.QueryFault.{QueryFault}
-use Rattle.query_run.proofs.Ending.{files_end, files_cause, files_quiet, files_stop, files_cost, memory_end, all_placed, came_to, read_most, ends, scan_cause, scan_stop, scan_cost, sums}
+use Rattle.query_run.proofs.Ending.{files_end, files_cause, files_quiet, files_stop, memory_end, all_placed, came_to, read_most, ends, scan_cause, scan_stop, scan_cost, sums}
 use Rattle.query_run.proofs.query.run_job.Goals as goal
 
 pub returns-in-Err-clause-ends : goal.returns-in-Err-clause-ends

@@ -1,4 +1,4 @@
-use Rattle.std.proofs.Common.{◌≡◌, ◌∙◌, sym, subst, true}
+use Rattle.std.proofs.Common.{sym, subst}
 use Rattle.tree_meaning.specs.Tree.{Query}
 use Rattle.query_meaning.specs.Faults.{ComesTo, is_query}
 use Rattle.query_tree.specs.Queries.{query_view}
@@ -17,13 +17,13 @@ pub returns-in-Err-clause-headline : goal.returns-in-Err-clause-headline
 returns-in-Err-clause-headline g c = headline c.args.sql.now c.args.names.now _ _ _ _ (text_ends c.args.sql.now c.args.names.now _ c.in-Err.fault _ c.in-Err.ensures.refused)
 
 pub returns-in-Err-clause-cause : goal.returns-in-Err-clause-cause
-returns-in-Err-clause-cause g c = text_cause _ c.args.sql.now c.args.names.now _ c.in-Err.fault c.in-Err.ensures.refused
+returns-in-Err-clause-cause g c = text_cause QuerySum c.args.sql.now c.args.names.now _ c.in-Err.fault c.in-Err.ensures.refused
 
 pub returns-in-Err-clause-quiet : goal.returns-in-Err-clause-quiet
-returns-in-Err-clause-quiet g c = text_quiet _ c.args.sql.now c.in-Err.fault _ c.in-Err.ensures.refused
+returns-in-Err-clause-quiet g c = text_quiet QuerySum c.args.sql.now c.in-Err.fault _ c.in-Err.ensures.refused
 
 pub returns-in-Err-clause-stopped : goal.returns-in-Err-clause-stopped
-returns-in-Err-clause-stopped g c = text_stops _ c.args.sql.now c.args.names.now _ c.in-Err.fault _ _ _ c.in-Err.ensures.refused
+returns-in-Err-clause-stopped g c = text_stops QuerySum c.args.sql.now c.args.names.now _ c.in-Err.fault _ _ _ c.in-Err.ensures.refused
 
 pub returns-in-Err-clause-taken : goal.returns-in-Err-clause-taken
 returns-in-Err-clause-taken g c = text_reads c.args.sql.now c.args.names.now _ _
