@@ -1,17 +1,16 @@
 -- The rows of a chunk that pass, lane by lane.
-use Rattle.std.proofs.Common.{◌≡◌, ℕ, zero, suc, ◌+◌, ◌<◌, ◌≤◌, Bool, true, false, not, cond, List, [], ◌∷◌, ◌++◌, length, drop, Option, None, Some, refl, sym, ap, subst, ◌∙◌, arith, append_assoc, append-nil}
+use Rattle.std.proofs.Common.{◌≡◌, ℕ, zero, suc, ◌+◌, ◌<◌, ◌≤◌, Bool, true, false, not, cond, List, [], ◌∷◌, ◌++◌, length, Option, None, Some, refl, sym, ap, subst, ◌∙◌, arith}
 use Rattle.std.specs.Prelude.{◌&&◌, slice_get, slice_index_or, count_by, fold}
 use Rattle.std.specs.List.{filter, range_with_len}
 use Rattle.std.proofs.lemmas.List.Sums.{sum_by-cons}
 use Rattle.value_meaning.specs.Val.{Val}
 use Rattle.eval_meaning.specs.Logic.{is_true}
-use Rattle.answer_meaning.specs.Lines.{line_text, print}
 use Rattle.eval_meaning.specs.Pair.{Pair}
 use Rattle.program_meaning.specs.Instructions.{Instr}
 use Rattle.program_meaning.specs.Instructions as instr
 use Rattle.program_meaning.specs.Registers.{lane_of, State, new_mask, with_made, step, empty, after, mask_at, value_at}
 use Rattle.program_meaning.specs.Jobs.{Job}
-use Rattle.block_lines.specs.RowLines.{keeps, job_output, job_outputs}
+use Rattle.block_lines.specs.RowLines.{keeps}
 
 -- no mask holds
 record HoldsNothing (s : State) : Type 0 where
@@ -73,46 +72,6 @@ counted_from p at n y f (suc k) j (r ∷ rows) l h =
 pub lanes_counted : (job : Job) (rows : List Val) (f : ℕ → Bool) → length rows ≤ 16 → ((i : ℕ) → i < 16 → f i ≡ keeps_at job (slice_get rows i))
     → count_by f (range_with_len 0 16) ≡ length (filter (keeps job) rows)
 lanes_counted job rows f l h = counted_from (keeps job) (keeps_at job) refl (λ v. refl) f 16 0 rows l (λ i below. ap f (zero_more i) ∙ h i below)
-
--- the text so far with the lines of the rows that are left is the whole
-pub record IsMaking (whole text : List ℕ) (job : Job) (rows : List Val) : Type 0 where
-  pub is : text ++ print (job_outputs job rows) ≡ whole
-
-pub making_at_first : (old : List ℕ) (job : Job) (rows : List Val) → IsMaking (old ++ print (job_outputs job rows)) old job rows
-making_at_first old job rows = record { is = refl }
-
-pub made_at_last : (whole text : List ℕ) (job : Job) (rows : List Val) (n : ℕ) → length rows ≤ n → IsMaking whole text job (drop n rows) → text ≡ whole
-made_at_last whole text job [] zero l h = sym (append-nil text) ∙ h.is
-made_at_last whole text job [] (suc n) l h = sym (append-nil text) ∙ h.is
-made_at_last whole text job (r ∷ rows) zero l h = absurd (omega arith)
-made_at_last whole text job (r ∷ rows) (suc n) l h = made_at_last whole text job rows n (omega arith) h
-
--- a row that passes
-passes_next : (whole text : List ℕ) (job : Job) (row : Val) (rows : List Val) → keeps job row ≡ true → IsMaking whole text job (row ∷ rows) → IsMaking whole (text ++ line_text (job_output job row)) job rows
-passes_next whole text job row rows k h =
-    let outs : job_outputs job (row ∷ rows) ≡ job_output job row ∷ job_outputs job rows = rw k refl in
-    record { is = append_assoc text (line_text (job_output job row)) (print (job_outputs job rows)) ∙ ap (λ l. text ++ print l) (sym outs) ∙ h.is }
-
-fails_next : (whole text : List ℕ) (job : Job) (row : Val) (rows : List Val) → keeps job row ≡ false → IsMaking whole text job (row ∷ rows) → IsMaking whole text job rows
-fails_next whole text job row rows k h =
-    let outs : job_outputs job (row ∷ rows) ≡ job_outputs job rows = rw k refl in
-    record { is = ap (λ l. text ++ print l) (sym outs) ∙ h.is }
-
--- the line of the row at a place was added
-pub line_made : (whole text next : List ℕ) (job : Job) (rows : List Val) (i : ℕ) → keeps_at job (slice_get rows i) ≡ true
-    → ((row : Val) → slice_get rows i ≡ Some row → next ≡ text ++ line_text (job_output job row))
-    → IsMaking whole text job (drop i rows) → IsMaking whole next job (drop (suc i) rows)
-line_made whole text next job [] zero k e h = absurd (cc)
-line_made whole text next job [] (suc i) k e h = absurd (cc)
-line_made whole text next job (r ∷ rows) zero k e h = subst (λ (l : List ℕ). IsMaking whole l job rows) (sym (e r refl)) (passes_next whole text job r rows k h)
-line_made whole text next job (r ∷ rows) (suc i) k e h = line_made whole text next job rows i k e h
-
--- none stands there, or the row there doesn't pass
-pub no_line_made : (whole text : List ℕ) (job : Job) (rows : List Val) (i : ℕ) → keeps_at job (slice_get rows i) ≡ false → IsMaking whole text job (drop i rows) → IsMaking whole text job (drop (suc i) rows)
-no_line_made whole text job [] zero k h = h
-no_line_made whole text job [] (suc i) k h = h
-no_line_made whole text job (r ∷ rows) zero k h = fails_next whole text job r rows k h
-no_line_made whole text job (r ∷ rows) (suc i) k h = no_line_made whole text job rows i k h
 
 -- a kept place is one of a row
 pub kept_is_there : (job : Job) (rows : List Val) (i : ℕ) → keeps_at job (slice_get rows i) ≡ true → i < length rows

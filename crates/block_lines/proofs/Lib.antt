@@ -1,8 +1,11 @@
 pub mod Simulated
-pub mod Sink
 pub mod TreeCells
 pub mod PairByPair
 pub mod LaneByLane
+pub mod LineBytes
 pub mod RowAt
 pub mod Kept
+pub mod KeptRows
+pub mod KeyedRows
 pub mod ChunkByChunk
+pub mod Opened

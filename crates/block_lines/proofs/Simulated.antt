@@ -1,23 +1,24 @@
 -- What a job that simulates a query makes of rows is what the query makes of them.
-use Rattle.std.proofs.Common.{◌≡◌, ℕ, suc, ◌+◌, Bool, true, false, cond, List, [], ◌∷◌, map, Option, refl, sym, ◌∙◌, ap, subst, Result}
+use Rattle.std.proofs.Common.{◌≡◌, ℕ, zero, suc, ◌+◌, Bool, true, false, cond, List, [], ◌∷◌, map, Option, refl, sym, ◌∙◌, ap, subst, ◌++◌}
 use Rattle.std.specs.Prelude.{length, if◌then◌else◌}
 use Rattle.std.specs.List.{filter, enumerate_from}
+use Rattle.std.proofs.lemmas.List.{length-map}
 use Rattle.value_meaning.specs.Val.{Val}
 use Rattle.tree_meaning.specs.Tree.{Ex, Outs, star, named, Query}
 use Rattle.check_meaning.specs.Names.{names, output_name}
-use Rattle.check_meaning.specs.Places.{output_exs}
+use Rattle.check_meaning.specs.Places.{output_exs, order_ex}
 use Rattle.check_meaning.specs.Aggregates.{is_grouped}
 use Rattle.eval_meaning.specs.Evaluation.{eval}
 use Rattle.eval_meaning.specs.Passed.{is_kept, passed}
 use Rattle.eval_meaning.specs.Pair.{Pair, alone}
 use Rattle.program_meaning.specs.Registers.{State, live_lane, value_at}
 use Rattle.program_meaning.specs.Jobs.{Job}
-use Rattle.program_meaning.specs.Simulation.{is_star, if_ungrouped, Simulates, ShowsNamed}
-use Rattle.answer_meaning.specs.Made.{Output, pairs_of}
-use Rattle.made_meaning.specs.MadeRows.{named_value, has_value, output_of}
-use Rattle.answer_meaning.specs.Lines.{print}
-use Rattle.block_lines.specs.Written.{Writes}
-use Rattle.block_lines.specs.RowLines.{registers_on, keeps, named_register, shown_pairs, job_output, job_outputs}
+use Rattle.program_meaning.specs.Simulation.{is_star, if_ungrouped, order_exs, Simulates, ShowsNamed}
+use Rattle.answer_meaning.specs.Made.{Output, Made, pairs_of}
+use Rattle.made_meaning.specs.MadeRows.{named_value, has_value, output_of, made, made_row, made_rows}
+use Rattle.made_meaning.proofs.Ungrouped.{made_by_rows}
+use Rattle.answer_meaning.specs.Lines.{line_text}
+use Rattle.block_lines.specs.RowLines.{registers_on, keeps, named_register, shown_pairs, job_output, kept_rows, line_of, lines_of, keyed_line, made_lines, made_keyed}
 
 abbrev Out : Type 0
 Out = List ℕ × ℕ
@@ -65,31 +66,64 @@ module _ (job : Job) (q : Query) (simulates : Simulates job q) (single : is_grou
       by_outs q.outs job.ends.star job.ends.outs (registers_on job row) row simulates.star (simulates.names ∙ ungrouped q (names q.outs) single)
       ((shows_is job q simulates row k).outs ∙ ap (λ es. map (λ (e : Ex). eval e (alone row)) es) (ungrouped q (output_exs q.outs) single))
 
-  by_test : (r : Val) (rows : List Val) (b : Bool) → keeps job r ≡ b → job_outputs job rows ≡ map (output_of q.outs) (passed q rows)
-      → job_outputs job (r ∷ rows) ≡ map (output_of q.outs) (passed q (r ∷ rows))
-  by_test r rows true k rest =
-      let k2 : is_kept q.filter (alone r) ≡ true = sym (keeps_is job q simulates r) ∙ k in
-      rw (k, k2) (λ i. output_is r k i ∷ rest i)
-  by_test r rows false k rest =
-      let k2 : is_kept q.filter (alone r) ≡ false = sym (keeps_is job q simulates r) ∙ k in
-      rw (k, k2) rest
+  pub line_is : (row : Val) → keeps job row ≡ true → line_of job row ≡ line_text (made_row q (alone row)).output
+  line_is row k = ap line_text (output_is row k)
 
-  pub outputs_are : (rows : List Val) → job_outputs job rows ≡ map (output_of q.outs) (passed q rows)
-  outputs_are [] = refl
-  outputs_are (r ∷ rows) = by_test r rows (keeps job r) refl (outputs_are rows)
+  pub keys_are : (row : Val) → keeps job row ≡ true → map (value_at (registers_on job row)) job.ends.sorts ≡ (made_row q (alone row)).keys
+  keys_are row k =
+      (shows_is job q simulates row k).sorts
+      ∙ ap (λ es. map (λ (e : Ex). eval e (alone row)) es) (ungrouped q (order_exs q) single)
+      ∙ each_key q.order
+    where
+      each_key : (order : List (Ex × Bool)) → map (λ (e : Ex). eval e (alone row)) (map (λ (k : Ex × Bool). order_ex q.outs k.0) order) ≡ map (λ (k : Ex × Bool). eval (order_ex q.outs k.0) (alone row)) order
+      each_key [] = refl
+      each_key (k ∷ order) = ap (λ (l : List Val). eval (order_ex q.outs k.0) (alone row) ∷ l) (each_key order)
+
+  pub keyed_is : (row : Val) → keeps job row ≡ true → keyed_line job row ≡ ((made_row q (alone row)).keys, line_text (made_row q (alone row)).output)
+  keyed_is row k = λ i. (keys_are row k i, line_is row k i)
 
 module _ (job : Job) (q : Query) (simulates : Simulates job q) where
-  -- as many rows are kept
-  pub kept_many : (rows : List Val) → length (filter (keeps job) rows) ≡ length (passed q rows)
-  kept_many [] = refl
-  kept_many (r ∷ rows) = rw (keeps_is job q simulates r) (by_test (is_kept q.filter (alone r)) r rows (kept_many rows))
+  -- what is made of each row that is kept, and of each pair that passes
+  pub kept_map : {A : Type 0} (f : Val → A) (g : Pair → A) → ((row : Val) → keeps job row ≡ true → f row ≡ g (alone row)) → (rows : List Val) → map f (kept_rows job rows) ≡ map g (passed q rows)
+  kept_map f g same [] = refl
+  kept_map f g same (r ∷ rows) = by_test (keeps job r) refl (kept_map f g same rows)
     where
-      by_test : (b : Bool) (r : Val) (rows : List Val) → length (filter (keeps job) rows) ≡ length (passed q rows)
-          → length (cond b (r ∷ filter (keeps job) rows) (filter (keeps job) rows)) ≡ length (cond b (alone r ∷ passed q rows) (passed q rows))
-      by_test true r rows e = ap suc e
-      by_test false r rows e = e
+      by_test : (b : Bool) → keeps job r ≡ b → map f (kept_rows job rows) ≡ map g (passed q rows) → map f (kept_rows job (r ∷ rows)) ≡ map g (passed q (r ∷ rows))
+      by_test true k rest =
+          let k2 : is_kept q.filter (alone r) ≡ true = sym (keeps_is job q simulates r) ∙ k in
+          rw (k, k2) (λ i. same r k i ∷ rest i)
+      by_test false k rest =
+          let k2 : is_kept q.filter (alone r) ≡ false = sym (keeps_is job q simulates r) ∙ k in
+          rw (k, k2) rest
 
--- what was written is what the query makes
-pub writes_answer : {T E : Type 0} (result : Result T E) (job : Job) (q : Query) → Simulates job q → is_grouped q ≡ false → (rows : List Val) (old new : Option (List ℕ))
-    → Writes result old new (print (job_outputs job rows)) → Writes result old new (print (map (output_of q.outs) (passed q rows)))
-writes_answer result job q simulates single rows old new h = subst (λ (o : List Output). Writes result old new (print o)) (outputs_are job q simulates single rows) h
+  -- as many rows are kept
+  pub kept_many : (rows : List Val) → length (kept_rows job rows) ≡ length (passed q rows)
+  kept_many rows =
+      sym (length-map (kept_rows job rows) (λ (r : Val). zero))
+      ∙ ap (λ (l : List ℕ). length l) (kept_map (λ (r : Val). zero) (λ (p : Pair). zero) (λ row k. refl) rows)
+      ∙ length-map (passed q rows) (λ (p : Pair). zero)
+
+-- what is made of the rows of pairs, and of the pairs
+over_made : {A : Type 0} (q : Query) (f : Made → A) (ps : List Pair) → map (λ (p : Pair). f (made_row q p)) ps ≡ map f (made_rows q ps)
+over_made q f [] = refl
+over_made q f (p ∷ ps) = ap (λ l. f (made_row q p) ∷ l) (over_made q f ps)
+
+module _ (job : Job) (q : Query) (simulates : Simulates job q) (single : is_grouped q ≡ false) where
+  each_made : {A : Type 0} (f : Val → A) (g : Made → A) → ((row : Val) → keeps job row ≡ true → f row ≡ g (made_row q (alone row))) → (rows : List Val) → map f (kept_rows job rows) ≡ map g (made q rows)
+  each_made f g same rows =
+      kept_map job q simulates f (λ (p : Pair). g (made_row q p)) same rows
+      ∙ over_made q g (passed q rows)
+      ∙ ap (λ (ms : List Made). map g ms) (sym (made_by_rows q rows single))
+
+  -- the lines of the rows that are kept are what the query makes
+  pub lines_are : (rows : List Val) → lines_of job (kept_rows job rows) ≡ made_lines q rows
+  lines_are rows = each_made (line_of job) (λ (m : Made). line_text m.output) (line_is job q simulates single) rows
+
+  pub keyed_are : (rows : List Val) → map (keyed_line job) (kept_rows job rows) ≡ made_keyed q rows
+  keyed_are rows = each_made (keyed_line job) (λ (m : Made). (m.keys, line_text m.output)) (keyed_is job q simulates single) rows
+
+  pub added_lines : (rows : List Val) (old new : List (List ℕ)) → new ≡ old ++ lines_of job (kept_rows job rows) → new ≡ old ++ made_lines q rows
+  added_lines rows old new h = h ∙ ap (λ (l : List (List ℕ)). old ++ l) (lines_are rows)
+
+  pub added_keyed : (rows : List Val) (old new : List (List Val × List ℕ)) → new ≡ old ++ map (keyed_line job) (kept_rows job rows) → new ≡ old ++ made_keyed q rows
+  added_keyed rows old new h = h ∙ ap (λ (l : List (List Val × List ℕ)). old ++ l) (keyed_are rows)

@@ -25,3 +25,9 @@ pub text_of_tree : (table : Table) (look : Look) (bytes : Bor (List ℕ)) (cell 
     → value_text (shown table cell) ≡ value_text (value_under table (seen look))
 unfolding shown
 text_of_tree table look bytes cell e b = ap (λ l. value_text (cell_value table l)) b ∙ ap (λ l. value_text (value_under table (seen l))) (sym e)
+
+-- the cell's value is the one that is shown
+pub value_of_tree : (table : Table) (look : Look) (bytes : Bor (List ℕ)) (cell : Cell) → look ≡ Tree bytes → cell_bytes cell ≡ bytes.now
+    → shown table cell ≡ value_under table (seen look)
+unfolding shown
+value_of_tree table look bytes cell e b = ap (λ l. cell_value table l) b ∙ ap (λ l. value_under table (seen l)) (sym e)

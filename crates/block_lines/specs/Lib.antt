@@ -1,5 +1,6 @@
 pub mod RowLines
-pub mod Written
-pub mod Underway
+pub mod LineSpans
+pub mod GoodBlocks
+pub mod Growing
 pub mod HeadTexts
 pub mod Ran

@@ -5,8 +5,10 @@ use Rattle.value_meaning.specs.Val.{Val}
 use Rattle.eval_meaning.specs.Pair.{alone}
 use Rattle.program_meaning.specs.Registers.{State, live_lane, after, mask_at, value_at}
 use Rattle.program_meaning.specs.Jobs.{Job}
-use Rattle.answer_meaning.specs.Made.{Output, pairs_of}
-use Rattle.made_meaning.specs.MadeRows.{has_value}
+use Rattle.tree_meaning.specs.Tree.{Query}
+use Rattle.answer_meaning.specs.Made.{Output, Made, pairs_of}
+use Rattle.answer_meaning.specs.Lines.{line_text}
+use Rattle.made_meaning.specs.MadeRows.{has_value, made}
 
 -- the registers that the program shows on the row
 abbrev pub registers_on : Job → Val → State
@@ -28,6 +30,25 @@ shown_pairs registers outs = filter has_value (map (named_register registers) ou
 abbrev pub job_output : Job → Val → Output
 job_output job row = if job.ends.star then pairs_of row else shown_pairs (registers_on job row) job.ends.outs
 
--- what it makes of rows
-abbrev pub job_outputs : Job → List Val → List Output
-job_outputs job rows = map (job_output job) (filter (keeps job) rows)
+-- the rows that pass
+abbrev pub kept_rows : Job → List Val → List Val
+kept_rows job rows = filter (keeps job) rows
+
+-- the line of a row, and of each of some rows
+abbrev pub line_of : Job → Val → List ℕ
+line_of job row = line_text (job_output job row)
+
+abbrev pub lines_of : Job → List Val → List (List ℕ)
+lines_of job rows = map (line_of job) rows
+
+-- the values of a row's sort keys, and its line
+abbrev pub keyed_line : Job → Val → List Val × List ℕ
+keyed_line job row = (map (value_at (registers_on job row)) job.ends.sorts, line_of job row)
+
+-- the lines of the rows that a query makes of rows, in order
+abbrev pub made_lines : Query → List Val → List (List ℕ)
+made_lines q rows = map (λ (m : Made). line_text m.output) (made q rows)
+
+-- these lines, each with the values of the row's sort keys
+abbrev pub made_keyed : Query → List Val → List (List Val × List ℕ)
+made_keyed q rows = map (λ (m : Made). (m.keys, line_text m.output)) (made q rows)

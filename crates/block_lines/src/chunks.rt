@@ -1,68 +1,68 @@
-//! The lines of a chunk of rows.
+//! The rows of a chunk that pass.
 
-ghost use Rattle.std.specs.Prelude.{◌≡◌, ◌<◌, ◌%◌, ◌++◌, length, OnOk, IfOk};
-ghost use Rattle.std.specs.List.{filter};
-ghost use Rattle.answer_meaning.specs.Lines.{print};
+ghost use Rattle.std.specs.Prelude.{◌≡◌, ◌<◌, ◌%◌, length, OnOk};
 ghost use Rattle.lane_ssa.specs.Bound.{IsBound};
 ghost use Rattle.lane_ssa.specs.ChunksOf.{rows_from};
 ghost use Rattle.lane_ssa.specs.Counts.{counted};
 ghost use Rattle.block_lines.specs.HeadTexts.{AreHeads};
 ghost use Rattle.block_lines.specs.Ran.{HasRunOver};
-ghost use Rattle.block_lines.specs.RowLines.{keeps, job_outputs};
+ghost use Rattle.block_lines.specs.RowLines.{kept_rows};
 
 use crate::heads::LineHeads;
-use crate::lines::append_line;
+use crate::sink::RowSink;
 use block_file::Block;
 use lane_ssa::Frame;
-use snel_values::{Bytes, OutOfMemory};
+use snel_values::OutOfMemory;
+use std::alloc::Global;
 
-/// Adds the lines of the rows that passed in the chunk from `first` on that the frame ran over.
+/// Hands on the rows that passed in the chunk from `first` on that the frame ran over.
 #[inline(never)]
-fn append_lanes<'b>(
-    into: &mut Bytes,
+fn take_lanes<'b, S: RowSink>(
+    alloc: Global,
     heads: &LineHeads,
     frame: &Frame<'b>,
     block: &Block<'b>,
     first: u32,
+    sink: &mut S,
 ) -> Result<(), OutOfMemory>
+    requires takes { S.takes sink.old frame.now.job }
     requires heads { AreHeads frame.now.job.ends.outs heads.now }
     requires ran { HasRunOver block.now.0 (rows_from first block.now.1) frame.now }
-    ensures { OnOk result (into.new ≡ into.old
-        ++ print (job_outputs frame.now.job (rows_from first block.now.1))) }
+    ensures { OnOk result (S.grew sink.old sink.new frame.now.job
+        (kept_rows frame.now.job (rows_from first block.now.1))) }
 {
     let kept = frame.kept();
     for lane in 0..16u32 {
         if kept.has(lane) {
-            append_line(into, heads, frame, block, first, lane)?;
+            sink.take(alloc, heads, frame, block, first, lane)?;
         }
     }
     Ok(())
 }
 
-/// Runs the chunk from `first` on, adds the lines of its rows that pass, and says how many they are.
-pub(crate) fn append_chunk<'b>(
-    into: &mut Bytes,
+/// Runs the chunk from `first` on, and hands on its rows that pass.
+pub(crate) fn take_chunk<'b, S: RowSink>(
+    alloc: Global,
     heads: &LineHeads,
     frame: &mut Frame<'b>,
     block: &Block<'b>,
     first: u32,
-) -> Result<u32, OutOfMemory>
+    sink: &mut S,
+) -> Result<(), OutOfMemory>
+    requires takes { S.takes sink.old frame.old.job }
     requires heads { AreHeads frame.old.job.ends.outs heads.now }
     requires bound { IsBound block.now.0 frame.old.job.program frame.old.symbols }
     requires within { first < length block.now.1 }
     requires whole { first % 16 ≡ 0 }
-    ensures text { OnOk result (into.new ≡ into.old
-        ++ print (job_outputs frame.old.job (rows_from first block.now.1))) }
-    ensures lines { IfOk result (λ n. n
-        ≡ length (filter (keeps frame.old.job) (rows_from first block.now.1))) }
+    ensures rows { OnOk result (S.grew sink.old sink.new frame.old.job
+        (kept_rows frame.old.job (rows_from first block.now.1))) }
     ensures chunks { frame.new.chunks ≡ counted frame.old.chunks 1 }
     ensures kept { frame.new.kept ≡ counted frame.old.kept
-        (length (filter (keeps frame.old.job) (rows_from first block.now.1))) }
+        (length (kept_rows frame.old.job (rows_from first block.now.1))) }
     ensures job { frame.new.job ≡ frame.old.job }
     ensures symbols { frame.new.symbols ≡ frame.old.symbols }
 {
     let chunk = block.chunk(first);
     frame.run_chunk(block, &chunk);
-    append_lanes(into, heads, frame, block, first)?;
-    Ok(frame.kept().count())
+    take_lanes(alloc, heads, frame, block, first, sink)
 }

@@ -1,10 +1,10 @@
-//! What stands before the values of lines, made once for all lines of a block.
+//! What stands before the values of lines, made once for all lines of a query.
 
 ghost use Rattle.std.specs.Prelude.{◌≡◌, ◌∷◌, ◌++◌, [], cond, slice_get, IfOk, OnOk, OnErr, option_copied};
 ghost use Rattle.block_lines.specs.HeadTexts.{head_text, head_texts, AreHeads};
 
 use json_out::put_quoted;
-use lane_ssa::EndOuts;
+use lane_ssa::{EndOuts, Job};
 use snel_values::{Bytes, OutOfMemory};
 use std::alloc::Global;
 use std::marker::Model;
@@ -82,16 +82,17 @@ fn heads_of(alloc: Global, mark: &[u8], outs: &EndOuts) -> Result<Heads, OutOfMe
 /// What stands before the value of each output of a job: `{` and the name where the value is the first of its line, a comma
 /// and the name where it isn't.
 #[derive(Drop)]
-pub(crate) struct LineHeads {
+pub struct LineHeads {
     opening: Heads,
     following: Heads,
 }
 
 impl LineHeads {
-    /// Makes them for the outputs.
-    pub(crate) fn of(alloc: Global, outs: &EndOuts) -> Result<LineHeads, OutOfMemory>
-        ensures { IfOk result (λ h. AreHeads outs.now h) }
+    /// Those of the job's outputs.
+    pub fn of(alloc: Global, job: &Job) -> Result<LineHeads, OutOfMemory>
+        ensures { IfOk result (λ h. AreHeads job.now.ends.outs h) }
     {
+        let outs = &job.ends().outs;
         let opening = heads_of(alloc, b"{", outs)?;
         let following = heads_of(alloc, b",", outs)?;
         Ok(LineHeads { opening, following })

@@ -4,14 +4,13 @@ ghost use Rattle.program_meaning.specs.Programs.{IsInstruction, mask_count, valu
 ghost use Rattle.program_meaning.specs.Jobs.{AreEnds};
 ghost use Rattle.lane_ssa.specs.Views.{instr_view, ends_view};
 
-use crate::{LinesFault, write_lines};
-use block_file::open_block;
+use crate::{LineHeads, Lines, ScanFault, scan_block};
 use lane_ssa::{Builder, EndAggs, EndOut, EndOuts, Ends, Frame, Instr, Job, Registers, Tally};
-use snel_device::MemOut;
-use snel_values::{OutOfMemory, Text, Value};
+use snel_values::{Bytes, OutOfMemory, Text, Value};
 use std::alloc::Global;
 use std::process::Abort;
 use std::test::Fail;
+use time_index::Entry;
 use tree_meaning::IsWhat;
 
 /// The table of `a` and `b` and the rows `{"a":1,"b":"x"}`, `{"a":null}` and `{"b":7}`.
@@ -162,32 +161,66 @@ fn job(
     }))
 }
 
-/// What writing the lines of so many rows answers, and what the frame counted.
+/// An entry of so many rows, with these times.
+fn entry(rows: u32, least: i64, greatest: i64) -> Entry {
+    Entry {
+        start: 0,
+        length: 0,
+        rows,
+        least,
+        greatest,
+    }
+}
+
+/// What scanning a block answers, and what the frame counted.
 fn run<'b>(
     alloc: Global,
     job: &'b Job,
     bytes: &'b [u8],
-    rows: u32,
-    out: &mut MemOut,
-) -> Option<(Result<u64, LinesFault>, Tally)> {
-    match (Frame::new(alloc, job), open_block(alloc, bytes, rows)) {
-        (Ok(mut frame), Ok(block)) => {
-            let written = write_lines(alloc, &mut frame, &block, out);
-            Some((written, frame.into_tally()))
+    entry: &Entry,
+    field: &str,
+    into: &mut Lines,
+) -> Option<(Result<(), ScanFault>, Tally)> {
+    match (Frame::new(alloc, job), LineHeads::of(alloc, job)) {
+        (Ok(mut frame), Ok(heads)) => {
+            let scanned = scan_block(alloc, &mut frame, &heads, bytes, entry, field, into);
+            Some((scanned, frame.into_tally()))
         }
         _ => None,
     }
 }
 
-/// The job writes these lines of the three rows.
-fn writes(rt: &impl Abort, alloc: Global, job: &Job, lines: u64, wanted: &str) -> Result<(), Fail> {
-    let mut out = MemOut::new(alloc, &[])?;
-    match run(alloc, job, THREE, 3, &mut out) {
-        Some((written, counted)) => {
-            assert_eq!(rt; written, Ok(lines), "{wanted}");
-            assert_eq!(rt; out.bytes(), wanted.as_bytes(), "{wanted}");
+/// The lines, end to end.
+fn joined(alloc: Global, lines: &Lines) -> Result<Bytes, OutOfMemory> {
+    let mut all = Bytes::new(alloc);
+    for at in 0..lines.len() {
+        if let Some(line) = lines.get(at) {
+            all.push_all(line)?;
+        }
+    }
+    Ok(all)
+}
+
+/// The job makes these lines of the three rows.
+fn makes(
+    rt: &impl Abort,
+    alloc: Global,
+    job: &Job,
+    count: usize,
+    wanted: &str,
+) -> Result<(), Fail> {
+    let mut lines = Lines::new(alloc);
+    match run(alloc, job, THREE, &entry(3, 1, 0), "", &mut lines) {
+        Some((scanned, counted)) => {
+            assert_eq!(rt; scanned, Ok(()), "{wanted}");
+            assert_eq!(rt;
+                joined(alloc, &lines)?.as_slice(),
+                wanted.as_bytes(),
+                "{wanted}"
+            );
+            assert_eq!(rt; lines.len(), count, "{wanted}");
             assert_eq!(rt; counted.chunks(), 1, "{wanted}");
-            assert_eq!(rt; counted.kept(), lines, "{wanted}");
+            assert_eq!(rt; counted.kept(), count as u64, "{wanted}");
             Ok(())
         }
         None => Err("no frame".into()),
@@ -197,7 +230,7 @@ fn writes(rt: &impl Abort, alloc: Global, job: &Job, lines: u64, wanted: &str) -
 #[test]
 fn whole_rows_are_lines(rt: HostRuntime) -> Result<(), Fail> {
     let all = job(rt.alloc(), 0, true, ("a", 1), ("b", 2))?;
-    writes(
+    makes(
         &rt,
         rt.alloc(),
         &all,
@@ -205,11 +238,11 @@ fn whole_rows_are_lines(rt: HostRuntime) -> Result<(), Fail> {
         "{\"a\":1,\"b\":\"x\"}\n{\"a\":null}\n{\"b\":7}\n",
     )?;
     let missing = job(rt.alloc(), 1, true, ("a", 1), ("b", 2))?;
-    writes(&rt, rt.alloc(), &missing, 1, "{\"b\":7}\n")
+    makes(&rt, rt.alloc(), &missing, 1, "{\"b\":7}\n")
 }
 
 /// The two outputs of rows, and the lines that are wanted.
-const NAMED: [(u32, (&str, u32), (&str, u32), u64, &str); 6] = [
+const NAMED: [(u32, (&str, u32), (&str, u32), usize, &str); 6] = [
     (
         0,
         ("b", 2),
@@ -241,24 +274,10 @@ fn outputs_are_pairs(rt: HostRuntime) -> Result<(), Fail> {
     for (keep, a, b, lines, wanted) in NAMED {
         if keep < 2 && a.1 < 9 && b.1 < 9 {
             let named = job(rt.alloc(), keep, false, a, b)?;
-            writes(&rt, rt.alloc(), &named, lines, wanted)?;
+            makes(&rt, rt.alloc(), &named, lines, wanted)?;
         }
     }
     Ok(())
-}
-
-#[test]
-fn a_sink_that_fails_has_a_front(rt: HostRuntime) -> Result<(), Fail> {
-    let named = job(rt.alloc(), 0, false, ("a", 1), ("b", 2))?;
-    let mut out = MemOut::new(rt.alloc(), &[(1, 9)])?;
-    match run(rt.alloc(), &named, THREE, 3, &mut out) {
-        Some((written, _)) => {
-            assert_eq!(rt; written, Err(LinesFault::WriteFault));
-            assert_eq!(rt; out.bytes(), b"{\"a\":1,\"b".as_slice());
-            Ok(())
-        }
-        None => Err("no frame".into()),
-    }
 }
 
 /// A block of so many rows `{}`.
@@ -274,14 +293,15 @@ fn empty_rows(alloc: Global, rows: u32) -> Result<Vec<u8>, Fail> {
 fn each_chunk_has_its_lines(rt: HostRuntime) -> Result<(), Fail> {
     let named = job(rt.alloc(), 1, false, ("a", 1), ("m", 3))?;
     let bytes = empty_rows(rt.alloc(), 17)?;
-    let mut out = MemOut::new(rt.alloc(), &[])?;
-    match run(rt.alloc(), &named, &bytes, 17, &mut out) {
-        Some((written, counted)) => {
-            assert_eq!(rt; written, Ok(17));
-            assert_eq!(rt;
-                out.bytes(),
-                b"{\"m\":true}\n".repeat(rt.alloc(), 17)?.as_slice()
-            );
+    let mut lines = Lines::new(rt.alloc());
+    let of = entry(17, 1, 0);
+    match run(rt.alloc(), &named, &bytes, &of, "a", &mut lines) {
+        Some((scanned, counted)) => {
+            assert_eq!(rt; scanned, Ok(()));
+            assert_eq!(rt; lines.len(), 17);
+            for at in 0..17 {
+                assert_eq!(rt; lines.get(at), Some(b"{\"m\":true}\n".as_slice()));
+            }
             assert_eq!(rt; counted.chunks(), 2);
             Ok(())
         }
@@ -289,18 +309,63 @@ fn each_chunk_has_its_lines(rt: HostRuntime) -> Result<(), Fail> {
     }
 }
 
-/// Lines are put 65,536 bytes or more at a time: those of 1,366 chunks, each of 16 lines of 3 bytes.
+/// The first moment of 2024, and the second behind it.
+const FIRST: i64 = 1_704_067_200_000_000;
+
+const SECOND: i64 = 1_704_067_201_000_000;
+
+/// The rows `{"ts":FIRST}` and `{"ts":SECOND}`.
+const TIMES: &[u8] = &[
+    0xE0, 0x01, 0x00, 0xEA, 0xE8, 0x81, 0x83, 0xD5, 0x87, 0xB3, 0x82, 0x74, 0x73, 0xDA, 0x8A, 0x68,
+    0x80, 0x0F, 0xE8, 0x81, 0x81, 0x80, 0x80, 0x80, 0xDA, 0x8A, 0x68, 0x80, 0x0F, 0xE8, 0x81, 0x81,
+    0x80, 0x80, 0x81,
+];
+
+/// How many of its last bytes a block lacks, the rows and the times of its entry, the indexed field, and what a scan answers.
+const SCANS: [(usize, u32, i64, i64, &str, Result<(), ScanFault>); 9] = [
+    (0, 2, FIRST, SECOND, "ts", Ok(())),
+    (0, 2, 0, i64::MAX, "ts", Ok(())),
+    (0, 2, 1, 0, "a", Ok(())),
+    (0, 2, 1, 0, "", Ok(())),
+    (0, 2, FIRST, FIRST, "ts", Err(ScanFault::OutOfRange)),
+    (0, 2, SECOND, SECOND, "ts", Err(ScanFault::OutOfRange)),
+    (0, 1, FIRST, SECOND, "ts", Err(ScanFault::Damaged)),
+    (0, 3, FIRST, FIRST, "ts", Err(ScanFault::Damaged)),
+    (1, 2, FIRST, SECOND, "ts", Err(ScanFault::Damaged)),
+];
+
 #[test]
-fn many_lines_go_in_few_puts(rt: HostRuntime) -> Result<(), Fail> {
+fn a_bad_block_adds_nothing(rt: HostRuntime) -> Result<(), Fail> {
     let all = job(rt.alloc(), 0, true, ("a", 1), ("b", 2))?;
-    let bytes = empty_rows(rt.alloc(), 30_000)?;
-    let mut out = MemOut::new(rt.alloc(), &[(2, 0)])?;
-    match run(rt.alloc(), &all, &bytes, 30_000, &mut out) {
-        Some((written, _)) => {
-            assert_eq!(rt; written, Err(LinesFault::WriteFault));
-            assert_eq!(rt; out.bytes().len(), 65_568);
-            Ok(())
+    for (lacks, rows, least, greatest, field, wanted) in SCANS {
+        let mut lines = Lines::new(rt.alloc());
+        lines.push(b"before\n")?;
+        let length = TIMES.len().saturating_sub(lacks);
+        let bytes = TIMES.get(..length).unwrap_or(b"");
+        let of = entry(rows, least, greatest);
+        match run(rt.alloc(), &all, bytes, &of, field, &mut lines) {
+            Some((scanned, _)) => assert_eq!(rt; scanned, wanted),
+            None => return Err("no frame".into()),
         }
-        None => Err("no frame".into()),
+        let text = if wanted.is_ok() {
+            "before\n{\"ts\":\"2024-01-01T00:00:00Z\"}\n{\"ts\":\"2024-01-01T00:00:01Z\"}\n"
+        } else {
+            "before\n"
+        };
+        assert_eq!(rt; joined(rt.alloc(), &lines)?.as_slice(), text.as_bytes());
     }
+    Ok(())
+}
+
+#[test]
+fn lines_are_cleared_and_grow_again(rt: HostRuntime) -> Result<(), Fail> {
+    let mut lines = Lines::new(rt.alloc());
+    lines.push(b"a\n")?;
+    lines.clear();
+    assert_eq!(rt; lines.len(), 0);
+    lines.push(b"")?;
+    lines.push(b"bc\n")?;
+    assert_eq!(rt; lines.len(), 2);
+    assert_eq!(rt; joined(rt.alloc(), &lines)?.as_slice(), b"bc\n".as_slice());
+    Ok(())
 }

@@ -3,6 +3,7 @@ use snel_device::{
     Out, SizeFault,
 };
 use std::alloc::Global;
+use std::io::BufWriter;
 use std::test::Fail;
 use std::{env, fs, process, rt};
 
@@ -182,7 +183,18 @@ fn is_made<R: rt::Files>(files: &mut HostFiles<'_, R>, name: &str) -> bool {
 fn is_read<R: rt::Files>(files: &mut HostFiles<'_, R>, name: &str) -> bool {
     let mut part = [0u8; 3];
     let read = files.read_at(name, 1, &mut part) == Ok(()) && part == *b"ell";
-    read && files.read_at(name, 3, &mut part) == Err(Failed)
+    let past = files.read_at(name, 3, &mut part) == Err(Failed);
+    let again = files.read_at(name, 2, &mut part) == Ok(()) && part == *b"llo";
+    let grown = files.append(name, b"!") == Ok(());
+    read && past && again && grown && files.read_at(name, 3, &mut part) == Ok(()) && part == *b"lo!"
+}
+
+// Whether a read of another file reads that file, and one of the first the first again.
+fn is_told_apart<R: rt::Files>(files: &mut HostFiles<'_, R>, name: &str, other: &str) -> bool {
+    let mut part = [0u8; 3];
+    let made = files.fresh(other) == Ok(()) && files.append(other, b"other") == Ok(());
+    let read = files.read_at(other, 1, &mut part) == Ok(()) && part == *b"the";
+    made && read && files.read_at(name, 1, &mut part) == Ok(()) && part == *b"ell"
 }
 
 #[test]
@@ -194,11 +206,13 @@ fn host_files_make_grow_and_read_a_file(rt: HostRuntime) -> Result<(), Fail> {
     let _ = fs::remove_dir_all(&rt, folder.as_str());
     fs::create_dir_all(&rt, folder.as_str())?;
     let name = format!(in alloc; "{folder}/made")?;
+    let other = format!(in alloc; "{folder}/other")?;
     let below = format!(in alloc; "{folder}/none/made")?;
     let under = format!(in alloc; "{name}/below")?;
-    let mut files = HostFiles::new(&rt);
+    let mut files = HostFiles::new(&rt, alloc);
     let right = is_made(&mut files, &name) && is_read(&mut files, &name);
     assert!(rt; right);
+    assert!(rt; is_told_apart(&mut files, &name, &other));
     assert_eq!(rt; files.fresh(&below), Err(FreshFault::Failed));
     assert_eq!(rt; files.size(&under), Err(SizeFault::Failed));
     fs::remove_dir_all(&rt, folder.as_str())?;
@@ -228,4 +242,16 @@ fn host_sink_fails_where_a_write_takes_nothing(rt: HostRuntime) {
     let fails = out.put(b"de") == Err(Failed) && out.put(b"") == Ok(());
     drop(out);
     assert!(rt; taken && fails && room == *b"abcd");
+}
+
+#[test]
+fn host_sink_gathers_what_it_is_given(rt: HostRuntime) -> Result<(), Fail> {
+    let mut room = [0u8; 4];
+    let held = BufWriter::with_capacity(rt.alloc(), 16, room.as_mut_slice())?;
+    let mut out = HostOut::new(held);
+    let gathered = out.put(b"ab") == Ok(()) && out.put(b"cd") == Ok(()) && out.end() == Ok(());
+    let ended = out.put(b"ef") == Ok(()) && out.end() == Err(Failed);
+    drop(out);
+    assert!(rt; gathered && ended && room == *b"abcd");
+    Ok(())
 }

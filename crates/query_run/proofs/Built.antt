@@ -11,7 +11,7 @@ use Rattle.query_run.specs.Queries.{Refused, unread, unchecked, not_built, Accep
 query_is : (p q : Query) → is_query p ≡ is_query q → p ≡ q
 query_is p q e = cc
 
-same_query : (sql : List ℕ) (p q : Query) → ComesTo sql (is_query p) → ComesTo sql (is_query q) → p ≡ q
+pub same_query : (sql : List ℕ) (p q : Query) → ComesTo sql (is_query p) → ComesTo sql (is_query q) → p ≡ q
 same_query sql p q x y = query_is p q (verdict-one sql (is_query p) (is_query q) x y)
 
 -- a text has one accepted query

@@ -36,9 +36,9 @@ not_compiled sql OutOfMemory a h = record {
   listed = λ q k e. neither 10 (λ z. omega arith) (λ z. omega arith) e;
   quiet = λ x y. Keeps-same a;
 }
-not_compiled sql Absent a h = absurd h
-not_compiled sql NotAFile a h = absurd h
-not_compiled sql Damaged a h = absurd h
+not_compiled sql (Absent k) a h = absurd h
+not_compiled sql (NotAFile k) a h = absurd h
+not_compiled sql (Damaged f b) a h = absurd h
 not_compiled sql ReadFault a h = absurd h
 not_compiled sql WriteFault a h = absurd h
 

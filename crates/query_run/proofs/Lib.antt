@@ -1,9 +1,8 @@
 mod Forms
 mod Sink
-mod Verdicts
-pub mod Built
-mod OneBlock
-mod BlockEnds
-mod Headlines
-mod Counting
+mod Plain
+pub mod Nothing
 mod Explaining
+mod Ending
+mod Asking
+pub mod Built

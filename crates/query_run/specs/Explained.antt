@@ -5,10 +5,10 @@ use Rattle.tree_meaning.specs.Tree.{Query}
 use Rattle.program_meaning.specs.Jobs.{Job}
 use Rattle.program_meaning.specs.Simulation.{Simulates}
 use Rattle.plan_lower.specs.Listing.{listing_text}
-use Rattle.block_lines.specs.Written.{IsPrefix}
+use Rattle.scan_meaning.specs.Answers.{IsPrefix}
 use Rattle.query_run.specs.Queries.{Accepts, IsAccepted, IsRefused, Refuses}
 use Rattle.query_run.specs.TextFaults.{refused_view}
-use Rattle.query_run.specs.Verdicts.{IsAmong}
+use Rattle.scan_meaning.specs.Verdicts.{IsAmong}
 use Rattle.query_run.specs.declared.query_fault.QueryFault.{QueryFault}
 use Rattle.query_run.specs.declared.query_fault.QueryFault.TheVariants.{Text, WriteFault, OutOfMemory}
 

@@ -1,28 +1,25 @@
--- What each fault says of the text and the files.
-use Rattle.std.specs.Prelude.{◌≡◌, ℕ, List, ⊤, Option, Some, None, Result, Ok, Err}
+-- What each fault says of the text, the names and the files.
+use Rattle.std.specs.Prelude.{ℕ, IsTrue, List, ⊤, Option, Some, Result, Ok, Err}
+use Rattle.std.specs.Option.{ForSome}
 use Rattle.std.specs.Io.KnownBytes.{Keeps}
 use Rattle.snel_device.specs.Contents.{Contents}
-use Rattle.time_index.specs.Answers.{Knows}
-use Rattle.query_run.specs.Queries.{IsAccepted, Refuses}
+use Rattle.tree_meaning.specs.Tree.{Query}
+use Rattle.scan_meaning.specs.Blocks.{Block}
+use Rattle.scan_meaning.specs.Batches.{is_plain, IsFirstBad, MayPass}
+use Rattle.scan_meaning.specs.Opened.{absent, no_file}
+use Rattle.scan_meaning.specs.Verdicts.{scan, Finds}
+use Rattle.scan_meaning.specs.Answers.{StopsAt, StopsReading}
+use Rattle.scan_meaning.specs.Causes.{IsFirst, index_costs}
+use Rattle.scan_files.specs.Surveys.{FirstIsThere}
+use Rattle.scan_files.specs.declared.fault.FilesFault.{FilesFault}
+use Rattle.scan_files.specs.declared.fault.FilesFault.TheVariants as files_fault
+use Rattle.scan_batches.specs.Scans.{IsNumbered}
+use Rattle.scan_batches.specs.declared.fault.ScanFault.{ScanFault}
+use Rattle.scan_batches.specs.declared.fault.ScanFault.TheVariants as scan_stop
+use Rattle.query_run.specs.Queries.{Accepts, IsAccepted, Refuses}
 use Rattle.query_run.specs.TextFaults.{refused_view}
-use Rattle.query_run.specs.Causes.{HasNoBlock, HasBadBlock}
 use Rattle.query_run.specs.declared.query_fault.QueryFault.{QueryFault}
 use Rattle.query_run.specs.declared.query_fault.QueryFault.TheVariants.{Text, Absent, NotAFile, Damaged, ReadFault, WriteFault, OutOfMemory}
-
--- where files tell, there is none of this name
-abbrev pub IsAbsent : Option Contents → List ℕ → Type 0
-IsAbsent None name = ⊤
-IsAbsent (Some files) name = files name ≡ None
-
--- what a fault says of the file of this name
-abbrev pub SaysOfFile : Option Contents → List ℕ → QueryFault → Type 0
-SaysOfFile told name (Text f) = ⊥
-SaysOfFile told name Absent = IsAbsent told name
-SaysOfFile told name NotAFile = Knows told name HasNoBlock
-SaysOfFile told name Damaged = Knows told name HasBadBlock
-SaysOfFile told name ReadFault = ⊤
-SaysOfFile told name WriteFault = ⊤
-SaysOfFile told name OutOfMemory = ⊤
 
 -- what a fault says of a text that isn't compiled
 abbrev pub SaysOfText : List ℕ → QueryFault → Type 0
@@ -30,19 +27,57 @@ SaysOfText sql (Text f) = Refuses sql (refused_view f)
 SaysOfText sql OutOfMemory = ⊤
 SaysOfText sql fault = ⊥
 
--- what a fault says of a query over a file
-abbrev pub SaysOfQuery : List ℕ → Option Contents → List ℕ → QueryFault → Type 0
-SaysOfQuery sql told name (Text f) = Refuses sql (refused_view f)
-SaysOfQuery sql told name OutOfMemory = ⊤
-SaysOfQuery sql told name fault = IsAccepted sql × SaysOfFile told name fault
+-- where files tell, all names have block files, and of the blocks that are to be scanned this holds
+abbrev pub OfScan : Query → List (List ℕ) → Option Contents → (List Block → Type 0) → Type 0
+OfScan q names told P = ForSome told (λ files. (bs : List Block) × ((n : ℕ) × Finds q names (Some files) (scan bs n)) × P bs)
 
--- A fault other than a failed write and want of memory leaves the sink as it was.
+-- what a fault says of the names and the files of an accepted query
+abbrev pub SaysOfFiles : Query → List (List ℕ) → Option Contents → QueryFault → Type 0
+SaysOfFiles q names told (Absent k) = ForSome told (λ files. IsFirst files names k absent)
+SaysOfFiles q names told (NotAFile k) = ForSome told (λ files. IsFirst files names k no_file)
+SaysOfFiles q names told (Damaged file block) = OfScan q names told (λ bs. (b : Block) × IsNumbered b file block × IsFirstBad q bs b)
+SaysOfFiles q names told ReadFault = ForSome told (λ files. FirstIsThere files names)
+SaysOfFiles q names told WriteFault = OfScan q names told (λ bs. ⊤)
+SaysOfFiles q names told OutOfMemory = ⊤
+SaysOfFiles q names told (Text f) = ⊥
+
+-- what an answer says of the names and the files of an accepted query: at Ok that no bad block stands in the way
+abbrev pub SaysOfQuery : {A : Type 0} → Query → List (List ℕ) → Option Contents → Result A QueryFault → Type 0
+SaysOfQuery q names told (Ok a) = OfScan q names told (λ bs. MayPass q bs)
+SaysOfQuery q names told (Err fault) = SaysOfFiles q names told fault
+
+-- the same of a text: a fault of the text says what stands against it, and every other answer but want of memory that it is accepted
+abbrev pub HasItsCause : {A : Type 0} → List ℕ → List (List ℕ) → Option Contents → Result A QueryFault → Type 0
+HasItsCause sql names told (Err (Text f)) = Refuses sql (refused_view f)
+HasItsCause sql names told (Err OutOfMemory) = ⊤
+HasItsCause sql names told result = IsAccepted sql × ((q : Query) → Accepts sql q → SaysOfQuery q names told result)
+
+-- A refused text, and a file that can't be opened, leave the sink as it was.
 abbrev pub IsQuiet : {A : Type 0} → Result A QueryFault → Option (List ℕ) → Option (List ℕ) → Type 0
-IsQuiet (Ok a) old new = ⊤
-IsQuiet (Err WriteFault) old new = ⊤
-IsQuiet (Err OutOfMemory) old new = ⊤
-IsQuiet (Err fault) old new = Keeps old new
+IsQuiet (Err (Text f)) old new = Keeps old new
+IsQuiet (Err (Absent k)) old new = Keeps old new
+IsQuiet (Err (NotAFile k)) old new = Keeps old new
+IsQuiet result old new = ⊤
 
-abbrev pub HasItsCause : {A : Type 0} → List ℕ → Option Contents → List ℕ → Result A QueryFault → Type 0
-HasItsCause sql told name (Ok a) = ⊤
-HasItsCause sql told name (Err fault) = SaysOfQuery sql told name fault
+-- A plain query that a bad block or a failed read ends has written the lines of whole batches: all before the block's, and at least as many
+-- as the count of bytes that were read tells.
+abbrev pub StopsSo : {A : Type 0} → Query → List (List ℕ) → Option Contents → Result A QueryFault → ℕ → ℕ → Option (List ℕ) → Option (List ℕ) → Type 0
+StopsSo q names told (Err (Damaged file block)) before now old new =
+    IsTrue (is_plain q) → OfScan q names told (λ bs. (b : Block) × IsNumbered b file block × StopsAt q bs b old new)
+StopsSo q names told (Err ReadFault) before now old new =
+    IsTrue (is_plain q)
+    → ForSome told (λ files. (bs : List Block) (n : ℕ) → Finds q names (Some files) (scan bs n) → StopsReading q bs (index_costs files names) before now old new)
+StopsSo q names told result before now old new = ⊤
+
+-- what stands against the files, and against the blocks, as a fault of the query
+abbrev pub query_fault : FilesFault → QueryFault
+query_fault (files_fault.Absent k) = Absent k
+query_fault (files_fault.NotAFile k) = NotAFile k
+query_fault files_fault.ReadFault = ReadFault
+query_fault files_fault.OutOfMemory = OutOfMemory
+
+abbrev pub scan_fault : ScanFault → QueryFault
+scan_fault (scan_stop.Damaged file block) = Damaged file block
+scan_fault scan_stop.ReadFault = ReadFault
+scan_fault scan_stop.WriteFault = WriteFault
+scan_fault scan_stop.OutOfMemory = OutOfMemory

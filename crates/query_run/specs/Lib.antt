@@ -2,10 +2,9 @@ pub mod Queries
 pub mod TextFaults
 pub mod Statuses
 pub mod Headline
-pub mod Verdicts
-pub mod Causes
-pub mod Loading
+pub mod Ends
 pub mod Faults
 pub mod Jobs
 pub mod Sums
 pub mod Explained
+pub mod Checking

@@ -5,9 +5,9 @@ use Rattle.query_run.specs.declared.query_fault.QueryFault.TheVariants.{Text, Ab
 
 abbrev pub status_of : QueryFault → ℕ
 status_of (Text f) = 3
-status_of Absent = 4
-status_of NotAFile = 5
-status_of Damaged = 6
+status_of (Absent k) = 4
+status_of (NotAFile k) = 5
+status_of (Damaged file block) = 6
 status_of ReadFault = 8
 status_of WriteFault = 9
 status_of OutOfMemory = 10
@@ -17,14 +17,7 @@ abbrev pub status_after : {A : Type 0} → Result A QueryFault → ℕ
 status_after (Ok a) = 0
 status_after (Err f) = status_of f
 
--- once the block is open, only the sink or memory can fail
-abbrev pub IsWriteOrMemory : {A : Type 0} → Result A QueryFault → Type 0
-IsWriteOrMemory (Ok a) = ⊤
-IsWriteOrMemory (Err WriteFault) = ⊤
-IsWriteOrMemory (Err OutOfMemory) = ⊤
-IsWriteOrMemory (Err f) = ⊥
-
--- once the bytes of the block are there, the block may be damaged too
-abbrev pub IsBlockFault : {A : Type 0} → Result A QueryFault → Type 0
-IsBlockFault (Err Damaged) = ⊤
-IsBlockFault result = IsWriteOrMemory result
+-- the answer is that a file is absent
+abbrev pub IsAbsent : {A : Type 0} → Result A QueryFault → Type 0
+IsAbsent (Err (Absent k)) = ⊤
+IsAbsent result = ⊥

@@ -1,23 +1,30 @@
--- What the sum of a query over a file says.
-use Rattle.std.specs.Prelude.{◌≡◌, ℕ, ◌+◌, ◌/◌, List, length, Option}
+-- What the sum of a query over files says.
+use Rattle.std.specs.Prelude.{◌≡◌, ℕ, List, length, drop, Option, Some}
+use Rattle.std.specs.Option.{ForSome}
 use Rattle.snel_device.specs.Contents.{Contents}
-use Rattle.value_meaning.specs.Val.{Val}
 use Rattle.tree_meaning.specs.Tree.{Query}
-use Rattle.eval_meaning.specs.Passed.{passed}
-use Rattle.query_run.specs.Queries.{Accepts}
-use Rattle.query_run.specs.Verdicts.{rows}
-use Rattle.query_run.specs.Causes.{FindsInFiles}
+use Rattle.answer_meaning.specs.Answers.{limited}
+use Rattle.made_meaning.specs.MadeRows.{made}
+use Rattle.snel_device.specs.Causes.{raised}
+use Rattle.scan_batches.specs.Scans.{chunks_of}
+use Rattle.scan_meaning.specs.Blocks.{Block}
+use Rattle.scan_meaning.specs.Batches.{rows_of, front, count_passed, Counts}
+use Rattle.scan_meaning.specs.Verdicts.{scan, Finds}
 use Rattle.query_run.specs.declared.sum.QuerySum.{QuerySum}
 
--- A sum over one block with these rows: the lines that were written, the blocks that were read and left out, and the chunks
--- that were run with the rows of them that passed.
-pub record Sums (q : Query) (rows : List Val) (sum : QuerySum) : Type 0 where
-  pub lines : sum.lines ≡ length (passed q rows)
-  pub read : sum.read ≡ 1
-  pub skipped : sum.skipped ≡ 0
-  pub chunks : sum.ran.chunks ≡ (length rows + 15) / 16
-  pub kept : sum.ran.kept ≡ length (passed q rows)
+-- What was done with these blocks: the lines that were put, the blocks that were read, the chunks that were run and the rows that passed.
+-- Counts of 64 bits stand still at their end.
+pub record SumsTo (q : Query) (bs : List Block) (sum : QuerySum) : Type 0 where
+  pub lines : sum.lines ≡ raised 0 (length (limited q.take (drop q.skip (made q (rows_of bs)))))
+  pub read : sum.read ≡ length bs
+  pub chunks : sum.ran.chunks ≡ raised 0 (chunks_of bs)
+  pub kept : sum.ran.kept ≡ raised 0 (count_passed q bs)
 
--- where files tell, the sum is that of the rows of the file's one block
-abbrev pub SumsUp : List ℕ → Option Contents → List ℕ → QuerySum → Type 0
-SumsUp sql told name sum = (q : Query) (rs : List Val) → Accepts sql q → FindsInFiles told name (rows rs) → Sums q rs sum
+-- The sum is that of the blocks in the batches that count, beside so many that were left out.
+pub record Sums (q : Query) (bs : List Block) (left_out : ℕ) (sum : QuerySum) : Type 0 where
+  pub skipped : sum.skipped ≡ left_out
+  pub done : (count : ℕ) → Counts q bs count → SumsTo q (front count bs) sum
+
+-- where files tell, the sum is that of the blocks that are to be scanned
+abbrev pub SumsUp : Query → List (List ℕ) → Option Contents → QuerySum → Type 0
+SumsUp q names told sum = ForSome told (λ files. (bs : List Block) (n : ℕ) → Finds q names (Some files) (scan bs n) → Sums q bs n sum)

@@ -25,7 +25,7 @@ pub fn compile(alloc: Global, sql: &str) -> Result<Job, QueryFault>
 }
 
 /// The job of an accepted query that was read from a text, if queries of its form are answered.
-fn job_of(alloc: Global, checked: &Checked) -> Result<Job, QueryFault>
+pub(crate) fn job_of(alloc: Global, checked: &Checked) -> Result<Job, QueryFault>
     ensures compiled { IfOk result
         (λ job. (sql : List ℕ) → ComesTo sql (is_query checked.now) → Compiles sql job) }
     ensures refused { IfErr result

@@ -1,15 +1,18 @@
-//! Queries over a file: from the text of a query and a file's name to the lines of an answer, and the listing of a text's job.
+//! Queries over files: [`run_query`] goes from the text of a query and the names of files to the lines of an answer,
+//! [`check_files`] reads files whole, and [`explain`] gives the listing of a text's job:
+//! `run_query(alloc, "SELECT * FROM logs", &names, &mut files, &mut out)?`.
 #![tactic(auto)]
 
 mod accept;
+mod checking;
 mod compile;
 mod listing;
-mod load;
 mod query;
 mod query_fault;
 mod sum;
 mod text_fault;
 
+pub use checking::check_files;
 pub use listing::explain;
 pub use query::run_query;
 pub use query_fault::QueryFault;

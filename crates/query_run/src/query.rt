@@ -1,55 +1,68 @@
-//! A query over a file: from its text to its lines.
-ghost use Rattle.std.specs.Prelude.{◌≡◌, ℕ, List, true, map, IfOk, IsErrOf};
-ghost use Rattle.snel_device.specs.Causes.{HasCause, Rose};
-ghost use Rattle.value_meaning.specs.Val.{Val};
-ghost use Rattle.block_meaning.specs.Blocks.{IsDamaged};
+//! A query over files: from its text to its lines.
+ghost use Rattle.std.specs.Prelude.{◌≡◌, ◌≤◌, true, length, IfOk, IsErrOf};
+ghost use Rattle.snel_device.specs.Causes.{Rose};
 ghost use Rattle.tree_meaning.specs.Tree.{Query as QueryTree};
-ghost use Rattle.eval_meaning.specs.Passed.{passed};
-ghost use Rattle.answer_meaning.specs.Lines.{print};
-ghost use Rattle.made_meaning.specs.MadeRows.{output_of};
+ghost use Rattle.query_tree.specs.Queries.{query_view};
 ghost use Rattle.program_meaning.specs.Simulation.{Simulates};
-ghost use Rattle.plan_lower.specs.Forms.{is_lowered};
-ghost use Rattle.block_lines.specs.Written.{Writes};
+ghost use Rattle.scan_meaning.specs.Batches.{is_plain};
+ghost use Rattle.scan_meaning.specs.Verdicts.{Verdict, Finds};
+ghost use Rattle.scan_meaning.specs.Answers.{EndsAs};
+ghost use Rattle.scan_meaning.specs.Causes.{StaysWithin};
 ghost use Rattle.query_run.specs.Queries.{Accepts};
-ghost use Rattle.query_run.specs.Jobs.{Compiles};
-ghost use Rattle.query_run.specs.Statuses.{status_after, IsWriteOrMemory, IsBlockFault};
+ghost use Rattle.query_run.specs.Statuses.{status_after, IsAbsent};
 ghost use Rattle.query_run.specs.Headline.{Headline};
-ghost use Rattle.query_run.specs.Verdicts.{Verdict, rows, EndsAs};
-ghost use Rattle.query_run.specs.Causes.{Ends, FindsInBlock};
-ghost use Rattle.query_run.specs.Faults.{HasItsCause, IsQuiet};
-ghost use Rattle.query_run.specs.Sums.{Sums, SumsUp};
+ghost use Rattle.query_run.specs.Ends.{Ends, Reads};
+ghost use Rattle.query_run.specs.Faults.{HasItsCause, SaysOfQuery, IsQuiet, StopsSo, query_fault, scan_fault};
+ghost use Rattle.query_run.specs.Sums.{SumsUp};
 
-use crate::compile::compile;
-use crate::load::{Stored, load};
+use crate::accept::accept;
+use crate::compile::job_of;
 use crate::query_fault::QueryFault;
 use crate::sum::QuerySum;
-use block_file::{Block, BlockFault, open_block};
-use block_lines::{LinesFault, write_lines};
-use lane_ssa::{Frame, Job};
+use batch_lines::JobScanner;
+use lane_ssa::Job;
+use query_tree::Query;
+use scan_batches::{Cut, ScanFault, scan_all};
+use scan_files::{FilesFault, find_places};
 use snel_device::{Files, Out};
-use snel_values::OutOfMemory;
+use snel_values::Words;
 use std::alloc::Global;
 
-/// Answers a query over a file of one block: writes one line for each row that WHERE keeps, in the order of the file.
+/// Answers a query over 1 to 64 files: reads the index of each, then the blocks that the WHERE doesn't exclude by the times
+/// that the index tells, 64 at a time, and puts one line for each row that passes, as OFFSET and LIMIT let them through. The
+/// lines of 64 blocks are put before the next are read, and a LIMIT that is full ends the reading.
 pub fn run_query<F: Files, O: Out>(
     alloc: Global,
     sql: &str,
-    name: &str,
+    names: &Words,
     files: &mut F,
     out: &mut O,
 ) -> Result<QuerySum, QueryFault>
-    // The bytes written are those of an answer: all of them at Ok, else a prefix.
-    ensures headline { Headline sql.now name.now (F.told files.old) (status_after result)
+    requires some { 1 ≤ length names.now }
+    requires few { length names.now ≤ 64 }
+
+    // The bytes written are those of an answer for the rows of the files: all of them at Ok, else a prefix.
+    ensures headline { Headline sql.now names.now (F.told files.old) (status_after result)
         (O.holds out.old) (O.holds out.new) }
-    // The answer is Ok, or the first fault that the text and the files give rise to.
-    ensures ends { Ends sql.now (F.told files.old) name.now (status_after result) (O.holds out.old)
+
+    // The answer is Ok, or the first fault that the text, the names and the files give rise to.
+    ensures ends { Ends sql.now names.now (F.told files.old) (status_after result) (O.holds out.old)
         (O.holds out.new) }
-    ensures cause { HasItsCause sql.now (F.told files.old) name.now result }
+    ensures cause { HasItsCause sql.now names.now (F.told files.old) result }
     ensures quiet { IsQuiet result (O.holds out.old) (O.holds out.new) }
-    // Where files tell, what was done is counted.
-    ensures sum { IfOk result (λ s. SumsUp sql.now (F.told files.old) name.now s) }
-    ensures absent { IsErrOf result QueryFault.Absent
-        → Rose (F.misses files.old) (F.misses files.new) }
+
+    // At a bad block and at a failed read whole batches of lines are written.
+    ensures stopped { (q : QueryTree) → Accepts sql.now q
+        → StopsSo q names.now (F.told files.old) result (F.taken files.old) (F.taken files.new)
+        (O.holds out.old) (O.holds out.new) }
+
+    // No more bytes are read than the answer costs, and what was done is counted.
+    ensures taken { Reads sql.now names.now (F.told files.old) (F.taken files.old)
+        (F.taken files.new) }
+    ensures sum { (q : QueryTree) → Accepts sql.now q
+        → IfOk result (λ s. SumsUp q names.now (F.told files.old) s) }
+
+    ensures absent { IsAbsent result → Rose (F.misses files.old) (F.misses files.new) }
     ensures read_fault { IsErrOf result QueryFault.ReadFault
         → Rose (F.read_faults files.old) (F.read_faults files.new) }
     ensures write_fault { IsErrOf result QueryFault.WriteFault
@@ -57,73 +70,101 @@ pub fn run_query<F: Files, O: Out>(
     ensures told { F.told files.new ≡ F.told files.old }
     ensures same_write_faults { F.write_faults files.new ≡ F.write_faults files.old }
 {
-    let job = match compile(alloc, sql) {
+    let checked = match accept(alloc, sql) {
+        Ok(checked) => checked,
+        Err(fault) => return Err(fault),
+    };
+    let job = match job_of(alloc, &checked) {
         Ok(job) => job,
         Err(fault) => return Err(fault),
     };
-    let stored = match load(alloc, files, name) {
-        Ok(stored) => stored,
-        Err(fault) => return Err(fault),
-    };
-    write_stored(alloc, &job, &stored, out)
+    run_job(alloc, checked.query(), &job, names, files, out)
 }
 
-// Writes the lines of a block that isn't damaged.
-fn write_stored<'b, O: Out>(
+// Answers a query that the job simulates.
+fn run_job<F: Files, O: Out>(
     alloc: Global,
-    job: &'b Job,
-    stored: &'b Stored,
+    query: &Query,
+    job: &Job,
+    names: &Words,
+    files: &mut F,
     out: &mut O,
 ) -> Result<QuerySum, QueryFault>
-    ensures ends { (sql : List ℕ) (verdict : Verdict) → Compiles sql job.now
-        → FindsInBlock stored.now.rows stored.now.bytes.items verdict
-        → EndsAs sql verdict (status_after result) (O.holds out.old) (O.holds out.new) }
+    requires some { 1 ≤ length names.now }
+    requires few { length names.now ≤ 64 }
+    requires simulates { Simulates job.now (query_view query.now) }
+    requires plain { is_plain (query_view query.now) ≡ true }
+    ensures ends { (v : Verdict) → Finds (query_view query.now) names.now (F.told files.old) v
+        → EndsAs (query_view query.now) v (status_after result) (O.holds out.old)
+        (O.holds out.new) }
+    ensures cause { SaysOfQuery (query_view query.now) names.now (F.told files.old) result }
     ensures quiet { IsQuiet result (O.holds out.old) (O.holds out.new) }
-    ensures damaged { IsErrOf result QueryFault.Damaged
-        → IsDamaged stored.now.rows stored.now.bytes.items }
-    ensures refused { IsBlockFault result }
-    ensures sum { IfOk result (λ s. (sql : List ℕ) (q : QueryTree) (rs : List Val)
-        → Compiles sql job.now → Accepts sql q
-        → FindsInBlock stored.now.rows stored.now.bytes.items (rows rs) → Sums q rs s) }
-    ensures fault { HasCause (O.faults out.old) (O.faults out.new)
-        (IsErrOf result QueryFault.WriteFault) }
+    ensures stopped { StopsSo (query_view query.now) names.now (F.told files.old) result
+        (F.taken files.old) (F.taken files.new) (O.holds out.old) (O.holds out.new) }
+    ensures later { F.taken files.old ≤ F.taken files.new }
+    ensures taken { StaysWithin (query_view query.now) names.now (F.told files.old)
+        (F.taken files.old) (F.taken files.new) }
+    ensures sum { IfOk result
+        (λ s. SumsUp (query_view query.now) names.now (F.told files.old) s) }
+    ensures absent { IsAbsent result → Rose (F.misses files.old) (F.misses files.new) }
+    ensures read_fault { IsErrOf result QueryFault.ReadFault
+        → Rose (F.read_faults files.old) (F.read_faults files.new) }
+    ensures write_fault { IsErrOf result QueryFault.WriteFault
+        → Rose (O.faults out.old) (O.faults out.new) }
+    ensures told { F.told files.new ≡ F.told files.old }
+    ensures same_write_faults { F.write_faults files.new ≡ F.write_faults files.old }
 {
-    let block = match open_block(alloc, &stored.bytes, stored.rows) {
-        Ok(block) => block,
-        Err(BlockFault::Damaged) => return Err(QueryFault::Damaged),
-        Err(BlockFault::OutOfMemory) => return Err(QueryFault::OutOfMemory),
+    let found = match find_places(alloc, query, names, files) {
+        Ok(found) => found,
+        Err(fault) => return Err(of_files(fault)),
     };
-    write_block(alloc, job, &block, out)
+    let Ok(mut scanner) = JobScanner::new(alloc, query, job) else {
+        return Err(QueryFault::OutOfMemory);
+    };
+    let cut = Cut {
+        skip: query.skip,
+        take: query.take,
+    };
+    match scan_all(
+        alloc,
+        &mut scanner,
+        &cut,
+        names,
+        &found.fields,
+        &found.places,
+        files,
+        out,
+    ) {
+        Ok(done) => Ok(QuerySum {
+            lines: done.lines,
+            read: done.read,
+            skipped: found.skipped,
+            ran: scanner.into_tally(),
+        }),
+        Err(fault) => Err(of_scan(fault)),
+    }
 }
 
-// Writes the lines of a block.
-fn write_block<'b, O: Out>(
-    alloc: Global,
-    job: &'b Job,
-    block: &Block<'b>,
-    out: &mut O,
-) -> Result<QuerySum, QueryFault>
-    ensures written { (q : QueryTree) → Simulates job.now q → is_lowered q ≡ true
-        → Writes result (O.holds out.old) (O.holds out.new)
-        (print (map (output_of q.outs) (passed q block.now.1))) }
-    ensures sum { IfOk result (λ s. (q : QueryTree) → Simulates job.now q → Sums q block.now.1 s) }
-    ensures refused { IsWriteOrMemory result }
-    ensures fault { HasCause (O.faults out.old) (O.faults out.new)
-        (IsErrOf result QueryFault.WriteFault) }
+// What stands against the files, as a fault of the query.
+fn of_files(fault: FilesFault) -> QueryFault
+    ensures { result ≡ query_fault fault }
 {
-    block.know();
-    let mut frame = match Frame::new(alloc, job) {
-        Ok(frame) => frame,
-        Err(OutOfMemory) => return Err(QueryFault::OutOfMemory),
-    };
-    match write_lines(alloc, &mut frame, block, out) {
-        Ok(lines) => Ok(QuerySum {
-            lines,
-            read: 1,
-            skipped: 0,
-            ran: frame.into_tally(),
-        }),
-        Err(LinesFault::WriteFault) => Err(QueryFault::WriteFault),
-        Err(LinesFault::OutOfMemory) => Err(QueryFault::OutOfMemory),
+    match fault {
+        FilesFault::Absent(number) => QueryFault::Absent(number),
+        FilesFault::NotAFile(number) => QueryFault::NotAFile(number),
+        FilesFault::ReadFault => QueryFault::ReadFault,
+        FilesFault::OutOfMemory => QueryFault::OutOfMemory,
+    }
+}
+
+// What stands against the blocks, as a fault of the query.
+fn of_scan(fault: ScanFault) -> QueryFault
+    ensures { result ≡ scan_fault fault }
+{
+    match fault {
+        ScanFault::Damaged { file, block } => QueryFault::Damaged { file, block },
+        ScanFault::ReadFault => QueryFault::ReadFault,
+        ScanFault::WriteFault => QueryFault::WriteFault,
+        ScanFault::OutOfMemory => QueryFault::OutOfMemory,
     }
 }

@@ -1,5 +1,5 @@
 ghost use Rattle.std.specs.Prelude.{◌≡◌, ◌<◌, ◌≤◌, ℕ, length, take, IfOk, OnOk, OnErr, IsErr};
-ghost use Rattle.std.specs.Io.KnownBytes.{Appends, Consumes, IsAtEnd, ReadConsumes};
+ghost use Rattle.std.specs.Io.KnownBytes.{Appends, Consumes, IsAtEnd, Keeps, ReadConsumes};
 ghost use Rattle.snel_device.specs.Causes.{HasCause};
 ghost use Rattle.snel_device.specs.Untold.{untold_bytes};
 
@@ -50,6 +50,9 @@ impl<R: Read> Input for HostInput<R> {
 
 /// A writer of the system, as standard output or standard error. It tells nothing of what it
 /// took.
+///
+/// Over a `BufWriter` what is put is gathered, and goes on in pieces of its capacity; [`HostOut::end`]
+/// hands on what is left.
 #[derive(Drop)]
 pub struct HostOut<W: Write> {
     inner: W,
@@ -62,6 +65,21 @@ impl<W: Write> HostOut<W> {
         ensures { ⟦<HostOut<W> as Out>⟧.faults result ≡ 0 }
     {
         HostOut { inner, faults: 0 }
+    }
+
+    /// Hands on what the writer still holds back. No byte is added, and none is lost.
+    pub fn end(&mut self) -> Result<(), Failed>
+        ensures fault { HasCause (⟦<HostOut<W> as Out>⟧.faults self.old)
+            (⟦<HostOut<W> as Out>⟧.faults self.new) (IsErr result) }
+        ensures kept { Keeps (W.contents self.old.inner) (W.contents self.new.inner) }
+    {
+        match self.inner.flush() {
+            Ok(()) => Ok(()),
+            Err(_) => {
+                self.faults = self.faults.saturating_add(1);
+                Err(Failed)
+            }
+        }
     }
 }
 

@@ -1,65 +1,147 @@
--- How the commands end.
-use Rattle.std.proofs.Common.{◌≡◌, ℕ, List, [], ◌∷◌, Option, Result, Ok, Err, refl, subst, arith}
-use Rattle.std.specs.Prelude.{IfErr, None}
-use Rattle.std.specs.Io.KnownBytes.{Keeps}
+-- What each command's own call says of how it came out.
+use Rattle.std.proofs.Common.{◌≡◌, ℕ, Bool, true, false, List, Option, Some, None, Result, Ok, Err, ◌≤◌, refl, ap, subst, sym, ◌∙◌, arith}
+use Rattle.std.specs.Prelude.{length}
 use Rattle.snel_device.specs.Contents.{Contents}
+use Rattle.tree_meaning.specs.Tree.{Query as QueryTree}
+use Rattle.scan_meaning.specs.Batches.{is_plain, front, Counts}
 use Rattle.query_run.specs.declared.query_fault.QueryFault.{QueryFault}
 use Rattle.query_run.specs.declared.query_fault.QueryFault.TheVariants.{Text, Absent, NotAFile, Damaged, ReadFault, WriteFault, OutOfMemory}
 use Rattle.query_run.specs.declared.sum.QuerySum.{QuerySum}
+use Rattle.query_run.specs.Queries.{Accepts}
 use Rattle.query_run.specs.Statuses as of_query
-use Rattle.query_run.specs.Faults.{IsQuiet}
-use Rattle.query_run.specs.Verdicts.{IsAmong}
-use Rattle.snel_prog.specs.declared.refusal.Refusal.{Refusal}
-use Rattle.snel_prog.specs.declared.refusal.Refusal.TheVariants.{Words, Query}
-use Rattle.snel_prog.specs.Words.{explain}
-use Rattle.snel_prog.specs.Refusals.{Says, HasItsCause}
+use Rattle.query_run.specs.Statuses.{IsAbsent}
+use Rattle.query_run.specs.Faults.{HasItsCause, IsQuiet, StopsSo}
+use Rattle.std.specs.Io.KnownBytes.{Keeps}
+use Rattle.query_run.specs.Checking.{HasCheckCause}
+use Rattle.query_run.specs.Sums.{SumsUp}
+use Rattle.query_run.specs.Headline as query_headline
+use Rattle.snel_words.specs.declared.ask.Settings.{Settings}
+use Rattle.snel_words.specs.Words.{Ask, nothing, query, check, explain}
+use Rattle.snel_prog.specs.declared.outcome.Refusal.{Refusal}
+use Rattle.snel_prog.specs.declared.outcome.Refusal.TheVariants.{Words, Query}
+use Rattle.snel_prog.specs.declared.outcome.Done.{Done}
+use Rattle.snel_prog.specs.declared.outcome.Done.TheVariants.{All, Counted}
+use Rattle.snel_prog.specs.Outcomes.{is_counted, done_of}
+use Rattle.snel_prog.specs.Causes.{Says, TellsCounts}
+use Rattle.snel_prog.specs.Headline.{Headline}
+use Rattle.snel_prog.specs.Stops.{StopsPlain}
 
 -- a fault by its status
-pub is_absent : (f : QueryFault) → of_query.status_of f ≡ 4 → f ≡ Absent
-is_absent Absent e = refl
-is_absent (Text q) e = absurd (omega arith)
-is_absent NotAFile e = absurd (omega arith)
-is_absent Damaged e = absurd (omega arith)
-is_absent ReadFault e = absurd (omega arith)
-is_absent WriteFault e = absurd (omega arith)
-is_absent OutOfMemory e = absurd (omega arith)
+pub is_absent : (A : Type 0) (f : QueryFault) → of_query.status_of f ≡ 4 → IsAbsent {A = A} (Err f)
+is_absent A (Absent k) e = tt
+is_absent A (Text q) e = absurd (omega (arith, e))
+is_absent A (NotAFile k) e = absurd (omega (arith, e))
+is_absent A (Damaged file block) e = absurd (omega (arith, e))
+is_absent A ReadFault e = absurd (omega (arith, e))
+is_absent A WriteFault e = absurd (omega (arith, e))
+is_absent A OutOfMemory e = absurd (omega (arith, e))
 
 pub is_read_fault : (f : QueryFault) → of_query.status_of f ≡ 8 → f ≡ ReadFault
 is_read_fault ReadFault e = refl
-is_read_fault (Text q) e = absurd (omega arith)
-is_read_fault NotAFile e = absurd (omega arith)
-is_read_fault Damaged e = absurd (omega arith)
-is_read_fault Absent e = absurd (omega arith)
-is_read_fault WriteFault e = absurd (omega arith)
-is_read_fault OutOfMemory e = absurd (omega arith)
+is_read_fault (Text q) e = absurd (omega (arith, e))
+is_read_fault (Absent k) e = absurd (omega (arith, e))
+is_read_fault (NotAFile k) e = absurd (omega (arith, e))
+is_read_fault (Damaged file block) e = absurd (omega (arith, e))
+is_read_fault WriteFault e = absurd (omega (arith, e))
+is_read_fault OutOfMemory e = absurd (omega (arith, e))
 
 pub is_write_fault : (f : QueryFault) → of_query.status_of f ≡ 9 → f ≡ WriteFault
 is_write_fault WriteFault e = refl
-is_write_fault (Text q) e = absurd (omega arith)
-is_write_fault NotAFile e = absurd (omega arith)
-is_write_fault Damaged e = absurd (omega arith)
-is_write_fault Absent e = absurd (omega arith)
-is_write_fault ReadFault e = absurd (omega arith)
-is_write_fault OutOfMemory e = absurd (omega arith)
+is_write_fault (Text q) e = absurd (omega (arith, e))
+is_write_fault (Absent k) e = absurd (omega (arith, e))
+is_write_fault (NotAFile k) e = absurd (omega (arith, e))
+is_write_fault (Damaged file block) e = absurd (omega (arith, e))
+is_write_fault ReadFault e = absurd (omega (arith, e))
+is_write_fault OutOfMemory e = absurd (omega (arith, e))
 
--- a fault that leaves the sink as it was, by its status
-pub quiet_by_status : (f : QueryFault) (old new : Option (List ℕ)) → IsQuiet {A = QuerySum} (Err f) old new → (of_query.status_of f ≡ 0 → ⊥) → (of_query.status_of f ≡ 9 → ⊥) → (of_query.status_of f ≡ 10 → ⊥) → Keeps old new
-quiet_by_status (Text q) old new quiet done write memory = quiet
-quiet_by_status Absent old new quiet done write memory = quiet
-quiet_by_status NotAFile old new quiet done write memory = quiet
-quiet_by_status Damaged old new quiet done write memory = quiet
-quiet_by_status ReadFault old new quiet done write memory = quiet
-quiet_by_status WriteFault old new quiet done write memory = absurd (write refl)
-quiet_by_status OutOfMemory old new quiet done write memory = absurd (memory refl)
+-- what a fault says, whatever the answer at Ok
+pub query_cause : (A B : Type 0) (sql : List ℕ) (names : List (List ℕ)) (told : Option Contents) (f : QueryFault) → HasItsCause {A = A} sql names told (Err f) → HasItsCause {A = B} sql names told (Err f)
+query_cause A B sql names told (Text q) h = h
+query_cause A B sql names told (Absent k) h = h
+query_cause A B sql names told (NotAFile k) h = h
+query_cause A B sql names told (Damaged file block) h = h
+query_cause A B sql names told ReadFault h = h
+query_cause A B sql names told WriteFault h = h
+query_cause A B sql names told OutOfMemory h = h
 
--- a text that is explained asks for no file
-pub never_absent : (n : ℕ) → IsAmong n (3 ∷ 9 ∷ 0 ∷ 10 ∷ []) → n ≡ 4 → ⊥
-never_absent n h e = let no = subst (λ (k : ℕ). IsAmong k (3 ∷ 9 ∷ 0 ∷ 10 ∷ [])) e h in cc
+pub check_cause : (A B : Type 0) (names : List (List ℕ)) (told : Option Contents) (f : QueryFault) → HasCheckCause {A = A} names told (Err f) → HasCheckCause {A = B} names told (Err f)
+check_cause A B names told (Text q) h = h
+check_cause A B names told (Absent k) h = h
+check_cause A B names told (NotAFile k) h = h
+check_cause A B names told (Damaged file block) h = h
+check_cause A B names told ReadFault h = h
+check_cause A B names told WriteFault h = h
+check_cause A B names told OutOfMemory h = h
 
-pub never_misread : (n : ℕ) → IsAmong n (3 ∷ 9 ∷ 0 ∷ 10 ∷ []) → n ≡ 8 → ⊥
-never_misread n h e = let no = subst (λ (k : ℕ). IsAmong k (3 ∷ 9 ∷ 0 ∷ 10 ∷ [])) e h in cc
+-- a text is explained without looking at files
+pub explain_cause : (sql : List ℕ) (told : Option Contents) (r : Result Done Refusal) → Says (explain sql) None r → Says (explain sql) told r
+explain_cause sql told (Ok All) h = h
+explain_cause sql told (Ok (Counted r s)) h = h
+explain_cause sql told (Err Words) h = h
+explain_cause sql told (Err (Query f)) h = h
 
-pub explained_cause : (sql : List ℕ) (told : Option Contents) (r : Result (Unit {0}) Refusal) → IfErr r (λ refusal. Says (explain sql) None refusal) → HasItsCause (explain sql) told r
-explained_cause sql told (Ok u) h = tt
-explained_cause sql told (Err Words) h = h
-explained_cause sql told (Err (Query f)) h = h
+-- the counts of a query
+pub is_counted_so : (stats : Bool) (r s : ℕ) → is_counted (done_of stats r s) ≡ stats
+is_counted_so true r s = refl
+is_counted_so false r s = refl
+
+pub tells_counts : (stats : Bool) (sql : List ℕ) (names : List (List ℕ)) (told : Option Contents) (sum : QuerySum) → ((q : QueryTree) → Accepts sql q → SumsUp q names told sum) → TellsCounts stats sql names told (done_of stats sum.read sum.skipped)
+tells_counts stats sql names told sum h = record {
+  asked = is_counted_so stats sum.read sum.skipped;
+  right = λ q accepts files tells bs n count finds counts.
+      let s = h q accepts files tells bs n finds in
+      ap (λ (r : ℕ). done_of stats r sum.skipped) (s.read count counts) ∙ ap (λ (k : ℕ). done_of stats (length (front count bs)) k) s.skipped;
+}
+
+-- the headline of what is asked
+same_text : (s t : Settings) (a b : List ℕ) (c d : List (List ℕ)) → query s a c ≡ query t b d → a ≡ b
+same_text s t a b c d e = cc
+
+same_names : (s t : Settings) (a b : List ℕ) (c d : List (List ℕ)) → query s a c ≡ query t b d → c ≡ d
+same_names s t a b c d e = cc
+
+module _ (told : Option Contents) (status : ℕ) (old new : Option (List ℕ)) where
+  pub of_files : (settings : Settings) (sql : List ℕ) (names : List (List ℕ)) → query_headline.Headline sql names told status old new → Headline (query settings sql names) told status old new
+  of_files settings sql names h = record {
+    answers = λ others text files q asks accepts.
+        let here : query_headline.Headline text files told status old new =
+        subst (λ (s : List ℕ). query_headline.Headline s files told status old new) (same_text settings others sql text names files asks)
+        (subst (λ (n : List (List ℕ)). query_headline.Headline sql n told status old new) (same_names settings others sql text names files asks) h) in
+        here.of_query q accepts;
+  }
+
+  pub of_nothing : Headline nothing told status old new
+  of_nothing = record { answers = λ settings sql names q asks accepts. absurd (cc) }
+
+  pub of_check : (names : List (List ℕ)) → Headline (check names) told status old new
+  of_check files = record { answers = λ settings sql names q asks accepts. absurd (cc) }
+
+  pub of_explain : (sql : List ℕ) → Headline (explain sql) told status old new
+  of_explain text = record { answers = λ settings sql names q asks accepts. absurd (cc) }
+
+-- whole batches of lines
+module _ (sql : List ℕ) (names : List (List ℕ)) (before now : ℕ) (old new : Option (List ℕ)) where
+  pub stops_not : (told : Option Contents) (status : ℕ) → (status ≡ 6 → ⊥) → (status ≡ 8 → ⊥) → StopsPlain sql names told status before now old new
+  stops_not told status no_bad no_fault = record { bad = λ q e accepts plain. absurd (no_bad e); unread = λ q e accepts plain. absurd (no_fault e) }
+
+  pub stops : (A : Type 0) (told : Option Contents) (f : QueryFault) → ((q : QueryTree) → Accepts sql q → StopsSo {A = A} q names told (Err f) before now old new) → StopsPlain sql names told (of_query.status_of f) before now old new
+  stops A told (Damaged file block) h = record {
+    bad = λ q e accepts plain files tells. let s = h q accepts plain files tells in (s.0, s.1, (s.2.0, s.2.2));
+    unread = λ q e accepts plain. absurd (omega (arith, e));
+  }
+  stops A told ReadFault h = record { bad = λ q e accepts plain. absurd (omega (arith, e)); unread = λ q e accepts plain. h q accepts plain }
+  stops A told (Text q) h = stops_not told 3 (λ e. omega (arith, e)) (λ e. omega (arith, e))
+  stops A told (Absent k) h = stops_not told 4 (λ e. omega (arith, e)) (λ e. omega (arith, e))
+  stops A told (NotAFile k) h = stops_not told 5 (λ e. omega (arith, e)) (λ e. omega (arith, e))
+  stops A told WriteFault h = stops_not told 9 (λ e. omega (arith, e)) (λ e. omega (arith, e))
+  stops A told OutOfMemory h = stops_not told 10 (λ e. omega (arith, e)) (λ e. omega (arith, e))
+
+-- a fault before the first batch leaves the sink as it was
+pub quiet : (A : Type 0) (f : QueryFault) (old new : Option (List ℕ)) → IsQuiet {A = A} (Err f) old new → 2 ≤ of_query.status_of f → of_query.status_of f ≤ 5 → Keeps old new
+quiet A (Text q) old new h least most = h
+quiet A (Absent k) old new h least most = h
+quiet A (NotAFile k) old new h least most = h
+quiet A (Damaged file block) old new h least most = absurd (omega (arith, most))
+quiet A ReadFault old new h least most = absurd (omega (arith, most))
+quiet A WriteFault old new h least most = absurd (omega (arith, most))
+quiet A OutOfMemory old new h least most = absurd (omega (arith, most))

@@ -1,5 +1,5 @@
 mod Sink
-mod Statuses
-mod Headlines
 mod Commands
-mod Lines
+mod Memory
+mod Asked
+mod Comes

@@ -18,3 +18,8 @@ Appends-both (Some xs) (Some ys) (Some zs) x y h k = k ∙ ap (λ (l : List ℕ)
 pub three : (r : Result (Unit {0}) Failed) (a b c d : Option (List ℕ)) (x y z : List ℕ) → Appends a b x → Appends b c y → OnOk r (Appends c d z) → OnOk r (Appends a d (x ++ (y ++ z)))
 three (Ok u) a b c d x y z f g h = Appends-both a b d x (y ++ z) f (Appends-both b c d y z g h)
 three (Err e) a b c d x y z f g h = tt
+
+-- two pieces, the last of which may fail
+pub two : (r : Result (Unit {0}) Failed) (a b c : Option (List ℕ)) (x y : List ℕ) → Appends a b x → OnOk r (Appends b c y) → OnOk r (Appends a c (x ++ y))
+two (Ok u) a b c x y f g = Appends-both a b c x y f g
+two (Err e) a b c x y f g = tt

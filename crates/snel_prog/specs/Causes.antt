@@ -1,30 +1,49 @@
--- What the words and the files give rise to, and how a call may end on it.
-use Rattle.std.specs.Prelude.{ℕ, List, [], ◌∷◌, ⊤, Option, Some}
-use Rattle.std.specs.Io.KnownBytes.{Keeps}
+-- What each outcome of a call says of what is asked and of the files: one line for each cause. What a call gives rise to over files that
+-- tell is one verdict.
+use Rattle.std.specs.Prelude.{◌≡◌, ℕ, Bool, List, length, ⊤, Option, Some, None, Result, Ok, Err}
+use Rattle.std.specs.Option.{ForSome}
+use Rattle.std.specs.Io.KnownBytes.{Appends}
+use Rattle.snel_device.specs.Causes.{Rose}
 use Rattle.snel_device.specs.Contents.{Contents}
-use Rattle.query_run.specs.Queries.{IsAccepted}
-use Rattle.query_run.specs.Verdicts.{Verdict, IsAmong}
-use Rattle.query_run.specs.Causes as of_query
-use Rattle.query_run.specs.Explained.{EndsExplained}
-use Rattle.snel_prog.specs.Words.{Ask, nothing, query, explain}
+use Rattle.tree_meaning.specs.Tree.{Query as QueryTree}
+use Rattle.scan_meaning.specs.Blocks.{Block}
+use Rattle.scan_meaning.specs.Batches.{front, Counts}
+use Rattle.scan_meaning.specs.Verdicts.{scan, Finds}
+use Rattle.query_run.specs.declared.query_fault.QueryFault.TheVariants.{OutOfMemory}
+use Rattle.query_run.specs.Queries.{Accepts, IsAccepted}
+use Rattle.query_run.specs.Faults as of_query
+use Rattle.query_run.specs.Checking as of_check
+use Rattle.query_run.specs.Explained as of_explain
+use Rattle.snel_words.specs.Words.{Ask, nothing, query, check, explain}
+use Rattle.snel_prog.specs.Outcomes.{status_after, is_counted, done_of}
+use Rattle.snel_prog.specs.Lines.{names_of, line_of}
+use Rattle.snel_prog.specs.declared.outcome.Refusal.{Refusal}
+use Rattle.snel_prog.specs.declared.outcome.Refusal.TheVariants.{Words, Query}
+use Rattle.snel_prog.specs.declared.outcome.Done.{Done}
+use Rattle.snel_prog.specs.declared.outcome.Done.TheVariants.{All}
 
--- A call ended that asks nothing: nothing was written.
-pub record EndsUnasked (status : ℕ) (old new : Option (List ℕ)) : Type 0 where
-  pub allowed : IsAmong status (2 ∷ 10 ∷ [])
-  pub wrote : Keeps old new
+-- A query that was answered tells its counts if they are asked: where files tell, those of the blocks of the batches that count and of the
+-- excluded ones.
+pub record TellsCounts (stats : Bool) (sql : List ℕ) (names : List (List ℕ)) (told : Option Contents) (done : Done) : Type 0 where
+  pub asked : is_counted done ≡ stats
+  pub right : (q : QueryTree) → Accepts sql q → ForSome told (λ files. (bs : List Block) (n count : ℕ)
+      → Finds q names (Some files) (scan bs n) → Counts q bs count → done ≡ done_of stats (length (front count bs)) n)
 
--- A call ended as what it asks and the files allow.
-abbrev pub Ends : Ask → Option Contents → ℕ → Option (List ℕ) → Option (List ℕ) → Type 0
-Ends nothing told status old new = EndsUnasked status old new
-Ends (query sql name) told status old new = of_query.Ends sql told name status old new
-Ends (explain sql) told status old new = EndsExplained sql status old new
+-- what an outcome says of what is asked
+abbrev pub Says : Ask → Option Contents → Result Done Refusal → Type 0
+Says nothing told (Err Words) = ⊤
+Says nothing told (Err (Query OutOfMemory)) = ⊤
+Says (query settings sql names) told (Err (Query f)) = of_query.HasItsCause {A = Done} sql names told (Err f)
+Says (query settings sql names) told (Ok done) = of_query.HasItsCause {A = Done} sql names told (Ok done) × TellsCounts settings.stats sql names told done
+Says (check names) told (Err (Query f)) = of_check.HasCheckCause {A = Done} names told (Err f)
+Says (check names) told (Ok All) = of_check.HasCheckCause {A = Done} names told (Ok All)
+Says (explain sql) told (Err (Query f)) = of_explain.SaysOfExplained sql f
+Says (explain sql) told (Ok All) = IsAccepted sql
+Says ask told outcome = ⊥
 
--- what a query and the files give rise to
-abbrev pub Finds : Ask → Option Contents → Verdict → Type 0
-Finds (query sql name) told verdict = of_query.Finds sql told name verdict
-Finds ask told verdict = ⊥
-
--- this holds of the file that an accepted query names, where files tell whether it is there and what it holds
-abbrev pub OfFile : Ask → Option Contents → (Option (List ℕ) → Type 0) → Type 0
-OfFile (query sql name) (Some files) P = IsAccepted sql → P (files name)
-OfFile ask told P = ⊤
+-- A call came out so and ended with its status, and `err` took its line unless its count of faults rose.
+pub record CameOut (ask : Ask) (told : Option Contents) (status before now : ℕ) (old new : Option (List ℕ)) : Type 0 where
+  pub outcome : Result Done Refusal
+  pub is : status ≡ status_after outcome
+  pub says : Says ask told outcome
+  pub line : ¬ Rose before now → Appends old new (line_of (names_of ask) outcome)

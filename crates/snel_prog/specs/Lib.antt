@@ -1,9 +1,9 @@
-pub mod Words
-pub mod Asked
-pub mod Statuses
 pub mod Messages
-pub mod Exactly
+pub mod Outcomes
+pub mod Lines
 pub mod Causes
-pub mod Refusals
+pub mod Ends
 pub mod Headline
-pub mod Reports
+pub mod Effects
+pub mod Stops
+pub mod Comes

@@ -1,5 +1,5 @@
--- The line that each status writes to standard error.
-use Rattle.std.specs.Prelude.{ℕ, ◌==◌, if◌then◌else◌, List, [], ◌++◌, codes, slice_get, unwrap_or}
+-- Why the text of a query isn't answered, in words.
+use Rattle.std.specs.Prelude.{ℕ, List, [], ◌++◌, codes}
 use Rattle.std.specs.Fmt.{decimal}
 use Rattle.query_meaning.specs.Faults as text
 use Rattle.check_meaning.specs.Limit as limit
@@ -10,6 +10,7 @@ use Rattle.check_meaning.specs.Fault as fault
 use Rattle.check_meaning.specs.Fault.{Fault}
 use Rattle.query_run.specs.Queries.{Refused, unread, unchecked, not_built}
 
+-- words about a file
 abbrev pub about : List ℕ → List ℕ → List ℕ
 about name what = codes "snel: " ++ name ++ what
 
@@ -58,21 +59,3 @@ refused_words not_built = codes "not built yet"
 -- the line of status 3
 abbrev pub query_line : Refused → List ℕ
 query_line f = codes "snel: query: " ++ (refused_words f ++ codes "\n")
-
--- the line of each other status
-abbrev pub message : ℕ → List ℕ → List ℕ
-message status name =
-    if status == 2 then codes "snel: words not understood\n" else
-    if status == 4 then about name (codes ": no such file\n") else
-    if status == 5 then about name (codes ": not a block file\n") else
-    if status == 6 then about name (codes ": block 0 is damaged\n") else
-    if status == 8 then codes "snel: files: read failed\n" else
-    if status == 9 then codes "snel: write failed\n" else codes "snel: out of memory\n"
-
--- the name of the file, where there are so many words
-abbrev pub name_in : List (List ℕ) → List ℕ
-name_in words = unwrap_or (slice_get words 2) []
-
--- nothing at status 0, else the line of the status, which isn't 3
-abbrev pub line_of : ℕ → List (List ℕ) → List ℕ
-line_of status words = if status == 0 then [] else message status (name_in words)

@@ -1,12 +1,14 @@
-//! snel answers SQL over block files of log records with JSON lines and a status.
+//! snel answers SQL over block files of log records with JSON lines and a status. Its call is [`snel`]: over the words of
+//! the command line, files, an input and two sinks, it does what the words ask and answers the status.
 #![tactic(auto)]
 
-mod ask;
+#[cfg(test)]
+mod file_tests;
 #[cfg(test)]
 mod grid_tests;
+mod outcome;
 #[cfg(test)]
 mod query_tests;
-mod refusal;
 mod report;
 mod run;
 #[cfg(test)]
@@ -16,14 +18,75 @@ mod test_files;
 #[cfg(test)]
 mod tests;
 
+use outcome::Refusal;
 use query_run::QueryFault;
-use refusal::Refusal;
 use run::snel;
 use snel_device::{HostFiles, HostInput, HostOut, OpenGate};
 use snel_values::Words;
-use std::io::ErrorKind;
+use std::alloc::Global;
+use std::io::{BufWriter, ErrorKind, IsTerminal, Stderr, Stdin, Write};
 use std::process::ExitCode;
+use std::thread::Threads;
 use std::{env, rt};
+
+// How many bytes are gathered for one write to standard output, where that is no terminal.
+const PIECE_BYTES: usize = 65_536;
+
+fn main(rt: HostRuntime) -> ExitCode {
+    let mut err = HostOut::new(rt.stderr());
+    let words = match words_of(&rt) {
+        Ok(words) => words,
+        Err(refusal) => return ExitCode::from(refuse(rt.alloc(), refusal, &mut err)),
+    };
+    let stdin = HostInput::new(rt.stdin());
+    let stdout = rt.stdout();
+    let status = if stdout.is_terminal() {
+        answer(&rt, &words, stdin, stdout, &mut err)
+    } else {
+        match BufWriter::with_capacity(rt.alloc(), PIECE_BYTES, stdout) {
+            Ok(gathered) => answer(&rt, &words, stdin, gathered, &mut err),
+            Err(_) => refuse(
+                rt.alloc(),
+                Refusal::Query(QueryFault::OutOfMemory),
+                &mut err,
+            ),
+        }
+    };
+    ExitCode::from(status)
+}
+
+// Does what the words ask, writes what it puts to `stdout`, and answers the status. What the writer holds back is handed on
+// before; where that fails, a call that was refused nothing ends as one whose put failed.
+fn answer<R: Threads + Sync + rt::Files + AllocGlobal, W: Write + Drop>(
+    rt: &R,
+    words: &Words,
+    mut stdin: HostInput<Stdin>,
+    stdout: W,
+    err: &mut HostOut<Stderr>,
+) -> u8 {
+    let mut files = HostFiles::new(rt, rt.alloc());
+    let mut out = HostOut::new(stdout);
+    let status = snel(
+        rt,
+        rt.alloc(),
+        words,
+        &mut files,
+        &mut stdin,
+        &mut out,
+        err,
+        &OpenGate,
+    );
+    match out.end() {
+        Err(_) if status == 0 => refuse(rt.alloc(), Refusal::Query(QueryFault::WriteFault), err),
+        _ => status,
+    }
+}
+
+// Writes the line of a refusal that is about no file, and answers its status.
+fn refuse(alloc: Global, refusal: Refusal, err: &mut HostOut<Stderr>) -> u8 {
+    report::report(Err(refusal), &Words::new(alloc), err);
+    refusal.status()
+}
 
 // The words after the program's name, or what stands against them.
 fn words_of<R: rt::Env + AllocGlobal>(rt: &R) -> Result<Words, Refusal> {
@@ -41,29 +104,4 @@ fn words_of<R: rt::Env + AllocGlobal>(rt: &R) -> Result<Words, Refusal> {
         }
     }
     Ok(words)
-}
-
-fn main(rt: HostRuntime) -> ExitCode {
-    let mut err = HostOut::new(rt.stderr());
-    let words = match words_of(&rt) {
-        Ok(words) => words,
-        Err(refusal) => {
-            report::report(refusal, "", &mut err);
-            return ExitCode::from(refusal.status());
-        }
-    };
-    let mut files = HostFiles::new(&rt);
-    let mut input = HostInput::new(rt.stdin());
-    let mut out = HostOut::new(rt.stdout());
-    let status = snel(
-        &rt,
-        rt.alloc(),
-        &words,
-        &mut files,
-        &mut input,
-        &mut out,
-        &mut err,
-        &OpenGate,
-    );
-    ExitCode::from(status)
 }

@@ -1,18 +1,65 @@
-//! The line of a refusal on standard error.
-ghost use Rattle.std.specs.Prelude.{◌≡◌, ◌≤◌, ◌++◌, codes, OnOk, OnErr};
+//! The line of a call on standard error.
+ghost use Rattle.std.specs.Prelude.{◌≡◌, ◌≤◌, ◌++◌, [], codes, OnOk, OnErr};
 ghost use Rattle.std.specs.Fmt.{decimal};
 ghost use Rattle.std.specs.Io.KnownBytes.{Appends};
 ghost use Rattle.query_check.specs.Faults.{limit_view, place_view};
-ghost use Rattle.snel_device.specs.Causes.{Rose};
-ghost use Rattle.snel_prog.specs.Messages.{numbered, limit_words, place_words, refused_words, query_line};
-ghost use Rattle.snel_prog.specs.Reports.{refusal_line};
 ghost use Rattle.query_run.specs.TextFaults.{refused_view};
+ghost use Rattle.snel_device.specs.Causes.{Rose};
+ghost use Rattle.snel_words.specs.Asked.{ask_view};
+ghost use Rattle.snel_prog.specs.Messages.{about, numbered, limit_words, place_words, refused_words, query_line};
+ghost use Rattle.snel_prog.specs.Outcomes.{status_after};
+ghost use Rattle.snel_prog.specs.Lines.{names_of, name_at, line_of, done_line, refusal_line};
 
-use crate::refusal::Refusal;
+use crate::outcome::{Done, Outcome, Refusal};
 use itoa::Buffer;
 use query_check::{Limit, Place};
 use query_run::{QueryFault, TextFault};
 use snel_device::{Failed, Out};
+use snel_values::Words;
+use snel_words::Ask;
+use std::alloc::Global;
+
+/// Writes the line of a call that came out so, and answers its status.
+pub fn end<E: Out>(alloc: Global, outcome: Outcome, ask: &Ask<'_>, err: &mut E) -> u8
+    ensures status { result ≡ status_after outcome }
+    ensures line { ¬ Rose (E.faults err.old) (E.faults err.new)
+        → Appends (E.holds err.old) (E.holds err.new) (line_of (names_of (ask_view ask.now)) outcome) }
+{
+    let none = Words::new(alloc);
+    report(outcome, names_in(ask, &none), err);
+    match outcome {
+        Ok(_) => 0,
+        Err(refusal) => refusal.status(),
+    }
+}
+
+// The names of the files that a command is about, or none.
+fn names_in<'w>(ask: &'w Ask<'w>, none: &'w Words) -> &'w Words
+    requires { none.now ≡ [] }
+    ensures { result.now ≡ names_of (ask_view ask.now) }
+{
+    match ask {
+        Ask::Query {
+            settings: _,
+            sql: _,
+            names,
+        } => names,
+        Ask::Check { names } => names,
+        Ask::Nothing | Ask::Explain { sql: _ } => none,
+    }
+}
+
+/// Writes the line of a call over files of these names that came out so. Where a put fails, the rest of the line isn't written.
+pub fn report<E: Out>(outcome: Outcome, names: &Words, err: &mut E)
+    ensures { ¬ Rose (E.faults err.old) (E.faults err.new)
+        → Appends (E.holds err.old) (E.holds err.new) (line_of names.now outcome) }
+{
+    let _ = match outcome {
+        Ok(done) => puts_done(err, done),
+        Err(Refusal::Words) => puts(err, "snel: words not understood\n"),
+        Err(Refusal::Query(fault)) => puts_refused(err, fault, names),
+    };
+}
 
 fn puts<E: Out>(err: &mut E, piece: &str) -> Result<(), Failed>
     ensures line { OnOk result (Appends (E.holds err.old) (E.holds err.new) piece.now) }
@@ -131,41 +178,62 @@ fn puts_query<E: Out>(err: &mut E, fault: TextFault) -> Result<(), Failed>
     puts(err, "\n")
 }
 
-fn puts_about<E: Out>(err: &mut E, name: &str, what: &str) -> Result<(), Failed>
-    ensures line { OnOk result (Appends (E.holds err.old) (E.holds err.new) (codes "snel: "
-        ++ name.now ++ what.now)) }
+// Words about the file with this number.
+fn puts_about<E: Out>(err: &mut E, names: &Words, file: u32, what: &str) -> Result<(), Failed>
+    ensures line { OnOk result (Appends (E.holds err.old) (E.holds err.new)
+        (about (name_at names.now file) what.now)) }
     ensures failed { OnErr result (Rose (E.faults err.old) (E.faults err.new)) }
+    ensures later { E.faults err.old ≤ E.faults err.new }
 {
     puts(err, "snel: ")?;
-    puts(err, name)?;
+    puts(err, names.get(file as usize).unwrap_or(""))?;
     puts(err, what)
 }
 
-// The line of what stands against a query.
-fn puts_refused<E: Out>(err: &mut E, fault: QueryFault, name: &str) -> Result<(), Failed>
+// The line of a bad block.
+fn puts_damaged<E: Out>(err: &mut E, names: &Words, file: u32, block: u32) -> Result<(), Failed>
     ensures line { OnOk result (Appends (E.holds err.old) (E.holds err.new)
-        (refusal_line (Refusal.Query fault) name.now)) }
+        (refusal_line names.now (Refusal.Query (QueryFault.Damaged file block)))) }
+    ensures failed { OnErr result (Rose (E.faults err.old) (E.faults err.new)) }
+{
+    puts_about(err, names, file, ": block ")?;
+    puts_numbered(err, "", block, " is damaged\n")
+}
+
+// The line of what stands against a query or files.
+fn puts_refused<E: Out>(err: &mut E, fault: QueryFault, names: &Words) -> Result<(), Failed>
+    ensures line { OnOk result (Appends (E.holds err.old) (E.holds err.new)
+        (refusal_line names.now (Refusal.Query fault))) }
     ensures failed { OnErr result (Rose (E.faults err.old) (E.faults err.new)) }
 {
     match fault {
         QueryFault::Text(fault) => puts_query(err, fault),
-        QueryFault::Absent => puts_about(err, name, ": no such file\n"),
-        QueryFault::NotAFile => puts_about(err, name, ": not a block file\n"),
-        QueryFault::Damaged => puts_about(err, name, ": block 0 is damaged\n"),
+        QueryFault::Absent(file) => puts_about(err, names, file, ": no such file\n"),
+        QueryFault::NotAFile(file) => puts_about(err, names, file, ": not a block file\n"),
+        QueryFault::Damaged { file, block } => puts_damaged(err, names, file, block),
         QueryFault::ReadFault => puts(err, "snel: files: read failed\n"),
         QueryFault::WriteFault => puts(err, "snel: write failed\n"),
         QueryFault::OutOfMemory => puts(err, "snel: out of memory\n"),
     }
 }
 
-/// Writes the line of a refusal, about the file of this name where it is about one.
-/// Where a put fails, the rest of the line isn't written.
-pub fn report<E: Out>(refusal: Refusal, name: &str, err: &mut E)
-    ensures { ¬ Rose (E.faults err.old) (E.faults err.new)
-        → Appends (E.holds err.old) (E.holds err.new) (refusal_line refusal name.now) }
+// The counts of blocks, where they are told.
+fn puts_done<E: Out>(err: &mut E, done: Done) -> Result<(), Failed>
+    ensures line { OnOk result (Appends (E.holds err.old) (E.holds err.new) (done_line done)) }
+    ensures failed { OnErr result (Rose (E.faults err.old) (E.faults err.new)) }
 {
-    let _ = match refusal {
-        Refusal::Words => puts(err, "snel: words not understood\n"),
-        Refusal::Query(fault) => puts_refused(err, fault, name),
-    };
+    match done {
+        Done::All => Ok(()),
+        Done::Counted { read, skipped } => puts_counts(err, read, skipped),
+    }
+}
+
+fn puts_counts<E: Out>(err: &mut E, read: u32, skipped: u32) -> Result<(), Failed>
+    ensures line { OnOk result (Appends (E.holds err.old) (E.holds err.new)
+        (numbered (codes "blocks read ") read ++ (numbered (codes ", skipped ") skipped
+        ++ codes "\n"))) }
+    ensures failed { OnErr result (Rose (E.faults err.old) (E.faults err.new)) }
+{
+    puts_number(err, "blocks read ", read)?;
+    puts_numbered(err, ", skipped ", skipped, "\n")
 }

@@ -56,8 +56,8 @@ pub(crate) fn ends_on<R: Threads + Sync + AllocGlobal>(
     }
 }
 
-// Whether a call of these words over these files ends so.
-fn ends_over<R: Threads + Sync + AllocGlobal>(
+/// Whether a call of these words over these files ends so.
+pub(crate) fn ends_over<R: Threads + Sync + AllocGlobal>(
     rt: &R,
     texts: &[&str],
     files: &mut MemFiles,

@@ -40,3 +40,61 @@ fn file_end(length: u32, rows: u32) -> [u8; 54] {
     end[50..].copy_from_slice(b"SNX1");
     end
 }
+
+/// A block file that grows block by block.
+#[derive(Drop)]
+pub(crate) struct Blocks {
+    alloc: Global,
+    field: Vec<u8>,
+    bytes: Vec<u8>,
+    entries: Vec<u8>,
+    count: u32,
+}
+
+impl Blocks {
+    /// No blocks, of a file that indexes the field of this name.
+    pub(crate) fn new(alloc: Global, field: &[u8]) -> Result<Blocks, AllocError> {
+        Ok(Blocks {
+            alloc,
+            field: field.to_vec(alloc)?,
+            bytes: Vec::new(alloc),
+            entries: Vec::new(alloc),
+            count: 0,
+        })
+    }
+
+    /// Adds a block of so many rows, with its least and its greatest time.
+    pub(crate) fn push(
+        &mut self,
+        block: &[u8],
+        rows: u32,
+        least: i64,
+        greatest: i64,
+    ) -> Result<(), AllocError> {
+        let start = self.bytes.len() as u64;
+        let length = u32::try_from(block.len()).unwrap_or(0);
+        self.bytes.extend_from_slice(block)?;
+        self.entries.extend_from_slice(&start.to_be_bytes())?;
+        self.entries.extend_from_slice(&length.to_be_bytes())?;
+        self.entries.extend_from_slice(&rows.to_be_bytes())?;
+        self.entries.extend_from_slice(&least.to_be_bytes())?;
+        self.entries.extend_from_slice(&greatest.to_be_bytes())?;
+        self.count = self.count.saturating_add(1);
+        Ok(())
+    }
+
+    /// The bytes of the file.
+    pub(crate) fn finish(self) -> Result<Vec<u8>, AllocError> {
+        let mut bytes = self.bytes.as_slice().to_vec(self.alloc)?;
+        let start = bytes.len() as u64;
+        let length = u16::try_from(self.field.len()).unwrap_or(0);
+        bytes.extend_from_slice(b"SNX1")?;
+        bytes.extend_from_slice(&length.to_be_bytes())?;
+        bytes.extend_from_slice(&self.field)?;
+        bytes.extend_from_slice(&self.count.to_be_bytes())?;
+        bytes.extend_from_slice(&self.entries)?;
+        bytes.extend_from_slice(&start.to_be_bytes())?;
+        bytes.extend_from_slice(b"SNX1")?;
+        Ok(bytes)
+    }
+}

@@ -57,13 +57,7 @@ static CALLS: [(&[&str], &[u32], u8, &str, &str); 19] = [
         "",
         "snel: empty: not a block file\n",
     ),
-    (
-        &["query", ALL, "none"],
-        &[],
-        5,
-        "",
-        "snel: none: not a block file\n",
-    ),
+    (&["query", ALL, "none"], &[], 0, "", ""),
     (
         &["query", ALL, "damaged"],
         &[],
@@ -215,30 +209,32 @@ fn no_fault_of_the_error_output_changes_a_status(rt: HostRuntime) {
     }
 }
 
-// The lines of a small answer are gathered and put by one call, of which so much is kept.
+// Each line is put by one call: the number of the put that fails, how much it keeps, and how much of the lines is then there.
 #[test]
 fn each_put_may_fail(rt: HostRuntime) {
     let words = ["query", ALL, "rows"];
-    for (keeps, length) in [
-        (0u32, 0usize),
-        (1, 1),
-        (16, 16),
-        (17, 17),
-        (34, 34),
-        (99, 35),
+    for (put, keeps, length) in [
+        (1u32, 0u32, 0usize),
+        (1, 1, 1),
+        (1, 16, 16),
+        (1, 99, 16),
+        (2, 0, 16),
+        (2, 1, 17),
+        (3, 0, 27),
+        (3, 99, 35),
     ] {
         let written = LINES.as_bytes().get(..length).unwrap_or(b"");
         let wanted = (9, written, "snel: write failed\n");
         assert!(rt;
-            ends(&rt, &words, (&[], &[(1, keeps)], &[]), wanted),
-            "{keeps}"
+            ends(&rt, &words, (&[], &[(put, keeps)], &[]), wanted),
+            "{put} {keeps}"
         );
     }
     assert!(rt;
         ends(
             &rt,
             &words,
-            (&[], &[(2, 0)], &[]),
+            (&[], &[(4, 0)], &[]),
             (0, LINES.as_bytes(), "")
         )
     );

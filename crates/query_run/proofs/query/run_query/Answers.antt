@@ -1,46 +1,76 @@
-use Rattle.query_run.specs.Verdicts.{EndsAs}
-use Rattle.query_run.specs.Statuses.{status_of, status_after}
-use Rattle.query_run.proofs.Sink.{not_zero}
-use Rattle.query_run.proofs.Built.{compiled_is_accepted}
-use Rattle.query_run.proofs.Verdicts.{refused}
-use Rattle.query_run.proofs.BlockEnds.{finds_file, in_files, block_cause, text_allowed}
-use Rattle.query_run.proofs.Counting.{sums_in_files}
-use Rattle.query_run.proofs.Headlines.{headline}
+use Rattle.std.proofs.Common.{sym, subst}
+use Rattle.tree_meaning.specs.Tree.{Query}
+use Rattle.query_meaning.specs.Faults.{ComesTo, is_query}
+use Rattle.query_tree.specs.Queries.{query_view}
+use Rattle.std.specs.Prelude.{IfOk}
+use Rattle.query_run.specs.Statuses.{status_after}
+use Rattle.query_run.specs.Faults.{StopsSo}
+use Rattle.query_run.specs.Sums.{SumsUp}
+use Rattle.query_run.specs.declared.sum.QuerySum.{QuerySum}
+use Rattle.query_run.proofs.Asking.{is_plain_one, text_ends, text_cause, text_quiet, text_stops, text_reads, headline, accepts_it, simulates_it, only_it, asked_ends, asked_reads, asked_cause}
 use Rattle.query_run.proofs.query.run_query.Goals as goal
 
 pub returns-in-Err-clause-ends : goal.returns-in-Err-clause-ends
-returns-in-Err-clause-ends g c v f =
-    refused c.args.sql.now v (status_of c.in-Err.fault) _ (not_zero c.in-Err.fault) (text_allowed c.args.sql.now c.args.name.now (g.F.Files.told c.args.files.now) c.in-Err.fault c.in-Err.ensures.refused v f)
+returns-in-Err-clause-ends g c = text_ends c.args.sql.now c.args.names.now _ c.in-Err.fault _ c.in-Err.ensures.refused
 
 pub returns-in-Err-clause-headline : goal.returns-in-Err-clause-headline
-returns-in-Err-clause-headline g c =
-    headline c.args.sql.now c.args.name.now (g.F.Files.told c.args.files.now) (status_of c.in-Err.fault) _ _
-    (λ v f. refused c.args.sql.now v (status_of c.in-Err.fault) _ (not_zero c.in-Err.fault) (text_allowed c.args.sql.now c.args.name.now (g.F.Files.told c.args.files.now) c.in-Err.fault c.in-Err.ensures.refused v f))
+returns-in-Err-clause-headline g c = headline c.args.sql.now c.args.names.now _ _ _ _ (text_ends c.args.sql.now c.args.names.now _ c.in-Err.fault _ c.in-Err.ensures.refused)
 
-pub returns-in-Err-load-clause-ends : goal.returns-in-Err-load-clause-ends
-returns-in-Err-load-clause-ends g c v f =
-    refused c.args.sql.now v (status_of c.in-Err-load.fault) _ (not_zero c.in-Err-load.fault)
-    (c.in-Err-load.ensures.refused v (finds_file c.args.sql.now c.args.name.now (g.F.Files.told c.args.files.now) v (compiled_is_accepted _ _ c.in-Ok.ensures.compiled) f))
+pub returns-in-Err-clause-cause : goal.returns-in-Err-clause-cause
+returns-in-Err-clause-cause g c = text_cause QuerySum c.args.sql.now c.args.names.now _ c.in-Err.fault c.in-Err.ensures.refused
 
-pub returns-in-Err-load-clause-headline : goal.returns-in-Err-load-clause-headline
-returns-in-Err-load-clause-headline g c =
-    headline c.args.sql.now c.args.name.now (g.F.Files.told c.args.files.now) (status_of c.in-Err-load.fault) _ _
-    (λ v f. refused c.args.sql.now v (status_of c.in-Err-load.fault) _ (not_zero c.in-Err-load.fault)
-    (c.in-Err-load.ensures.refused v (finds_file c.args.sql.now c.args.name.now (g.F.Files.told c.args.files.now) v (compiled_is_accepted _ _ c.in-Ok.ensures.compiled) f)))
+pub returns-in-Err-clause-quiet : goal.returns-in-Err-clause-quiet
+returns-in-Err-clause-quiet g c = text_quiet QuerySum c.args.sql.now c.in-Err.fault _ c.in-Err.ensures.refused
+
+pub returns-in-Err-clause-stopped : goal.returns-in-Err-clause-stopped
+returns-in-Err-clause-stopped g c = text_stops QuerySum c.args.sql.now c.args.names.now _ c.in-Err.fault _ _ _ c.in-Err.ensures.refused
+
+pub returns-in-Err-clause-taken : goal.returns-in-Err-clause-taken
+returns-in-Err-clause-taken g c = text_reads c.args.sql.now c.args.names.now _ _
+
+pub returns-in-Err-job_of-clause-ends : goal.returns-in-Err-job_of-clause-ends
+returns-in-Err-job_of-clause-ends g c =
+    text_ends c.args.sql.now c.args.names.now _ c.in-Err-job_of.fault _ (c.in-Err-job_of.ensures.refused c.args.sql.now c.in-Ok.ensures.accepted)
+
+pub returns-in-Err-job_of-clause-headline : goal.returns-in-Err-job_of-clause-headline
+returns-in-Err-job_of-clause-headline g c =
+    headline c.args.sql.now c.args.names.now _ _ _ _ (text_ends c.args.sql.now c.args.names.now _ c.in-Err-job_of.fault _ (c.in-Err-job_of.ensures.refused c.args.sql.now c.in-Ok.ensures.accepted))
+
+pub run_job-requires-clause-simulates : goal.run_job-requires-clause-simulates
+run_job-requires-clause-simulates g c =
+    simulates_it c.args.sql.now (query_view c.query.result.now) (subst (λ (p : Query). ComesTo c.args.sql.now (is_query p)) (sym c.query.ensures.is) c.in-Ok.ensures.accepted) _ (c.in-Ok-job_of.ensures.compiled c.args.sql.now c.in-Ok.ensures.accepted)
+
+pub run_job-requires-clause-plain : goal.run_job-requires-clause-plain
+run_job-requires-clause-plain g c =
+    is_plain_one (query_view c.query.result.now) (accepts_it c.args.sql.now (query_view c.query.result.now) (subst (λ (p : Query). ComesTo c.args.sql.now (is_query p)) (sym c.query.ensures.is) c.in-Ok.ensures.accepted) _ (c.in-Ok-job_of.ensures.compiled c.args.sql.now c.in-Ok.ensures.accepted)).built
 
 pub returns-clause-ends : goal.returns-clause-ends
-returns-clause-ends g c v f =
-    in_files _ _ (λ w. EndsAs c.args.sql.now w (status_after c.write_stored.result) (g.O.Out.holds c.args.out.now) (g.O.Out.holds c.write_stored.new.out)) (λ w k. c.write_stored.ensures.ends c.args.sql.now w c.in-Ok.ensures.compiled k) _ _ c.in-Ok-load.ensures.stored v (finds_file c.args.sql.now c.args.name.now (g.F.Files.told c.args.files.now) v (compiled_is_accepted _ _ c.in-Ok.ensures.compiled) f)
+returns-clause-ends g c =
+    asked_ends c.args.sql.now (query_view c.query.result.now) (subst (λ (p : Query). ComesTo c.args.sql.now (is_query p)) (sym c.query.ensures.is) c.in-Ok.ensures.accepted) _ (c.in-Ok-job_of.ensures.compiled c.args.sql.now c.in-Ok.ensures.accepted)
+    c.args.names.now (g.F.Files.told c.args.files.now) (status_after c.run_job.result) (g.O.Out.holds c.args.out.now) (g.O.Out.holds c.run_job.new.out) c.run_job.ensures.ends
 
 pub returns-clause-headline : goal.returns-clause-headline
 returns-clause-headline g c =
-    headline c.args.sql.now c.args.name.now (g.F.Files.told c.args.files.now) (status_after c.write_stored.result) (g.O.Out.holds c.args.out.now) (g.O.Out.holds c.write_stored.new.out)
-    (λ v f. in_files _ _ (λ w. EndsAs c.args.sql.now w (status_after c.write_stored.result) (g.O.Out.holds c.args.out.now) (g.O.Out.holds c.write_stored.new.out)) (λ w k. c.write_stored.ensures.ends c.args.sql.now w c.in-Ok.ensures.compiled k) _ _ c.in-Ok-load.ensures.stored v (finds_file c.args.sql.now c.args.name.now (g.F.Files.told c.args.files.now) v (compiled_is_accepted _ _ c.in-Ok.ensures.compiled) f))
+    headline c.args.sql.now c.args.names.now (g.F.Files.told c.args.files.now) (status_after c.run_job.result) (g.O.Out.holds c.args.out.now) (g.O.Out.holds c.run_job.new.out)
+    (asked_ends c.args.sql.now (query_view c.query.result.now) (subst (λ (p : Query). ComesTo c.args.sql.now (is_query p)) (sym c.query.ensures.is) c.in-Ok.ensures.accepted) _ (c.in-Ok-job_of.ensures.compiled c.args.sql.now c.in-Ok.ensures.accepted)
+    c.args.names.now (g.F.Files.told c.args.files.now) (status_after c.run_job.result) (g.O.Out.holds c.args.out.now) (g.O.Out.holds c.run_job.new.out) c.run_job.ensures.ends)
 
 pub returns-clause-cause : goal.returns-clause-cause
 returns-clause-cause g c =
-    block_cause c.args.sql.now c.args.name.now (g.F.Files.told c.args.files.now) _ _ (compiled_is_accepted _ _ c.in-Ok.ensures.compiled) c.in-Ok-load.ensures.stored c.write_stored.result c.write_stored.ensures.refused c.write_stored.ensures.damaged
+    asked_cause c.args.sql.now (query_view c.query.result.now) (subst (λ (p : Query). ComesTo c.args.sql.now (is_query p)) (sym c.query.ensures.is) c.in-Ok.ensures.accepted) _ (c.in-Ok-job_of.ensures.compiled c.args.sql.now c.in-Ok.ensures.accepted)
+    c.args.names.now (g.F.Files.told c.args.files.now) c.run_job.result c.run_job.ensures.cause
+
+pub returns-clause-stopped : goal.returns-clause-stopped
+returns-clause-stopped g c =
+    only_it c.args.sql.now (query_view c.query.result.now) (subst (λ (p : Query). ComesTo c.args.sql.now (is_query p)) (sym c.query.ensures.is) c.in-Ok.ensures.accepted) _ (c.in-Ok-job_of.ensures.compiled c.args.sql.now c.in-Ok.ensures.accepted)
+    (λ (p : Query). StopsSo {A = QuerySum} p c.args.names.now (g.F.Files.told c.args.files.now) c.run_job.result (g.F.Files.taken c.args.files.now) (g.F.Files.taken c.run_job.new.files) (g.O.Out.holds c.args.out.now) (g.O.Out.holds c.run_job.new.out)) c.run_job.ensures.stopped
+
+pub returns-clause-taken : goal.returns-clause-taken
+returns-clause-taken g c =
+    asked_reads c.args.sql.now (query_view c.query.result.now) (subst (λ (p : Query). ComesTo c.args.sql.now (is_query p)) (sym c.query.ensures.is) c.in-Ok.ensures.accepted) _ (c.in-Ok-job_of.ensures.compiled c.args.sql.now c.in-Ok.ensures.accepted)
+    c.args.names.now (g.F.Files.told c.args.files.now) (g.F.Files.taken c.args.files.now) (g.F.Files.taken c.run_job.new.files) c.run_job.ensures.later c.run_job.ensures.taken
 
 pub returns-clause-sum : goal.returns-clause-sum
 returns-clause-sum g c =
-    sums_in_files c.args.sql.now (g.F.Files.told c.args.files.now) c.args.name.now _ _ _ c.in-Ok.ensures.compiled c.in-Ok-load.ensures.stored c.write_stored.result c.write_stored.ensures.sum
+    only_it c.args.sql.now (query_view c.query.result.now) (subst (λ (p : Query). ComesTo c.args.sql.now (is_query p)) (sym c.query.ensures.is) c.in-Ok.ensures.accepted) _ (c.in-Ok-job_of.ensures.compiled c.args.sql.now c.in-Ok.ensures.accepted)
+    (λ (p : Query). IfOk c.run_job.result (λ s. SumsUp p c.args.names.now (g.F.Files.told c.args.files.now) s)) c.run_job.ensures.sum

@@ -4,7 +4,7 @@ use Rattle.snel_prog.proofs.Commands.{is_write_fault}
 use Rattle.snel_prog.proofs.run.explain_text.Goals as goal
 
 pub returns-in-Ok-clause-write_fault : goal.returns-in-Ok-clause-write_fault
-returns-in-Ok-clause-write_fault g c e = absurd (omega arith)
+returns-in-Ok-clause-write_fault g c e = absurd (omega (arith, e))
 
 pub returns-in-Err-clause-write_fault : goal.returns-in-Err-clause-write_fault
 returns-in-Err-clause-write_fault g c e = c.in-Err.ensures.write_fault (ap (λ (f : QueryFault). Err f) (is_write_fault c.in-Err.fault e))

@@ -1,0 +1,5 @@
+pub mod Texts
+pub mod Progress
+pub mod Rounds
+pub mod Puts
+pub mod Named

@@ -1,0 +1,41 @@
+-- The line that a call writes to standard error, by how it came out.
+use Rattle.std.specs.Prelude.{ℕ, List, [], ◌++◌, codes, slice_get, unwrap_or, Result, Ok, Err}
+use Rattle.std.specs.Fmt.{decimal}
+use Rattle.query_run.specs.TextFaults.{refused_view}
+use Rattle.query_run.specs.declared.query_fault.QueryFault.TheVariants.{Text, Absent, NotAFile, Damaged, ReadFault, WriteFault, OutOfMemory}
+use Rattle.snel_words.specs.Words.{Ask, nothing, query, check, explain}
+use Rattle.snel_prog.specs.Messages.{about, numbered, query_line}
+use Rattle.snel_prog.specs.declared.outcome.Refusal.{Refusal}
+use Rattle.snel_prog.specs.declared.outcome.Refusal.TheVariants.{Words, Query}
+use Rattle.snel_prog.specs.declared.outcome.Done.{Done}
+use Rattle.snel_prog.specs.declared.outcome.Done.TheVariants.{All, Counted}
+
+-- the names of the files that a command is about
+abbrev pub names_of : Ask → List (List ℕ)
+names_of (query settings sql names) = names
+names_of (check names) = names
+names_of ask = []
+
+-- the name of the file with this number, from 0 on
+abbrev pub name_at : List (List ℕ) → ℕ → List ℕ
+name_at names k = unwrap_or (slice_get names k) []
+
+-- the line of each refusal
+abbrev pub refusal_line : List (List ℕ) → Refusal → List ℕ
+refusal_line names Words = codes "snel: words not understood\n"
+refusal_line names (Query (Text f)) = query_line (refused_view f)
+refusal_line names (Query (Absent k)) = about (name_at names k) (codes ": no such file\n")
+refusal_line names (Query (NotAFile k)) = about (name_at names k) (codes ": not a block file\n")
+refusal_line names (Query (Damaged file block)) = about (name_at names file) (codes ": block " ++ (decimal block ++ codes " is damaged\n"))
+refusal_line names (Query ReadFault) = codes "snel: files: read failed\n"
+refusal_line names (Query WriteFault) = codes "snel: write failed\n"
+refusal_line names (Query OutOfMemory) = codes "snel: out of memory\n"
+
+-- nothing, or the counts of blocks
+abbrev pub done_line : Done → List ℕ
+done_line All = []
+done_line (Counted r s) = numbered (codes "blocks read ") r ++ (numbered (codes ", skipped ") s ++ codes "\n")
+
+abbrev pub line_of : List (List ℕ) → Result Done Refusal → List ℕ
+line_of names (Ok d) = done_line d
+line_of names (Err r) = refusal_line names r

@@ -1,0 +1,5 @@
+pub mod Places
+pub mod Numbers
+pub mod Options
+pub mod Commands
+pub mod NamedFiles

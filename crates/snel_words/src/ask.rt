@@ -1,0 +1,38 @@
+use snel_values::Words;
+
+/// What may stand before a query's text.
+#[derive(Clone, Copy, Debug, PartialEq, Eq)]
+pub struct Settings {
+    /// How many workers scan blocks, 1 to 64.
+    pub workers: u32,
+    /// How many groups a grouped query has at most, 1 to 16,777,216.
+    pub groups: u32,
+    /// Whether the counts of blocks are written.
+    pub stats: bool,
+}
+
+/// What a list of words asks.
+#[derive(Drop)]
+pub enum Ask<'w> {
+    /// Nothing: the words aren't accepted.
+    Nothing,
+    /// A query over files.
+    Query {
+        /// What stands before the query's text.
+        settings: Settings,
+        /// The query's text.
+        sql: &'w str,
+        /// The files' names, 1 to 64 of them.
+        names: Words,
+    },
+    /// Checks of files.
+    Check {
+        /// The files' names, 1 to 64 of them.
+        names: Words,
+    },
+    /// The listing of a query.
+    Explain {
+        /// The query's text.
+        sql: &'w str,
+    },
+}

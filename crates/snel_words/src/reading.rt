@@ -1,0 +1,117 @@
+// From a list of words to what it asks.
+ghost use Rattle.std.specs.Prelude.{◌≡◌, ◌≤◌, drop, IfOk};
+ghost use Rattle.snel_words.specs.Words.{asked, asked_query, query_of, check_of, explain_of};
+ghost use Rattle.snel_words.specs.Asked.{ask_view};
+
+use crate::ask::{Ask, Settings};
+use crate::fronts::{Limits, flag, is_operand, setting};
+use crate::names::names_from;
+use snel_values::{OutOfMemory, Words};
+use std::alloc::Global;
+
+const WORKERS: Limits = Limits {
+    least: 1,
+    most: 64,
+    usual: 4,
+};
+
+const GROUPS: Limits = Limits {
+    least: 1,
+    most: 16_777_216,
+    usual: 1_048_576,
+};
+
+/// What the words after the program's name ask.
+///
+/// An error says that no memory was left for the names.
+pub fn read_words<'w>(alloc: Global, words: &'w Words) -> Result<Ask<'w>, OutOfMemory>
+    ensures { IfOk result (λ ask. ask_view ask ≡ asked words.now) }
+{
+    let Some(command) = words.get(0) else {
+        return Ok(Ask::Nothing);
+    };
+    if command == "query" {
+        return read_query(alloc, words);
+    }
+    if command == "check" {
+        return read_check(alloc, words);
+    }
+    if command == "explain" {
+        return Ok(read_explain(words));
+    }
+    Ok(Ask::Nothing)
+}
+
+// What the words behind `query` ask.
+fn read_query<'w>(alloc: Global, words: &'w Words) -> Result<Ask<'w>, OutOfMemory>
+    ensures { IfOk result (λ ask. ask_view ask ≡ asked_query (drop 1 words.now)) }
+{
+    let Some((workers, at)) = setting(words, 1, "--workers", WORKERS) else {
+        return Ok(Ask::Nothing);
+    };
+    let Some((groups, at)) = setting(words, at, "--groups", GROUPS) else {
+        return Ok(Ask::Nothing);
+    };
+    let (stats, at) = flag(words, at, "--stats");
+    let settings = Settings {
+        workers,
+        groups,
+        stats,
+    };
+    read_operands(alloc, words, at, settings)
+}
+
+// The query of the text at a place over the files behind it.
+fn read_operands<'w>(
+    alloc: Global,
+    words: &'w Words,
+    at: usize,
+    settings: Settings,
+) -> Result<Ask<'w>, OutOfMemory>
+    requires { at ≤ 7 }
+    ensures { IfOk result (λ ask. ask_view ask ≡ query_of settings (drop at words.now)) }
+{
+    let Some(sql) = words.get(at) else {
+        return Ok(Ask::Nothing);
+    };
+    if !is_operand(sql) {
+        return Ok(Ask::Nothing);
+    }
+    match names_from(alloc, words, at + 1) {
+        Ok(Some(names)) => Ok(Ask::Query {
+            settings,
+            sql,
+            names,
+        }),
+        Ok(None) => Ok(Ask::Nothing),
+        Err(e) => Err(e),
+    }
+}
+
+// What the words behind `check` ask.
+fn read_check<'w>(alloc: Global, words: &'w Words) -> Result<Ask<'w>, OutOfMemory>
+    ensures { IfOk result (λ ask. ask_view ask ≡ check_of (drop 1 words.now)) }
+{
+    match names_from(alloc, words, 1) {
+        Ok(Some(names)) => Ok(Ask::Check { names }),
+        Ok(None) => Ok(Ask::Nothing),
+        Err(e) => Err(e),
+    }
+}
+
+// What the words behind `explain` ask.
+fn read_explain<'w>(words: &'w Words) -> Ask<'w>
+    ensures { ask_view result ≡ explain_of (drop 1 words.now) }
+{
+    if words.len() != 2 {
+        return Ask::Nothing;
+    }
+    let Some(sql) = words.get(1) else {
+        return Ask::Nothing;
+    };
+    if is_operand(sql) {
+        Ask::Explain { sql }
+    } else {
+        Ask::Nothing
+    }
+}
