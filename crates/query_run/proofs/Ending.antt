@@ -358,13 +358,13 @@ module _ (q : Query) (plain : is_plain q ≡ true) (names : List (List ℕ)) (to
       let same = scan_is files is bs n found in
       let f = h files is in
       let done : (count : ℕ) → Counts q (blocks_at files names fields places) count → SumsTo q (front count (blocks_at files names fields places)) sum = λ count counts.
-          subst (λ (b : List Block). SumsTo q b sum) (one_count q (blocks_at files names fields places) f.count count f.counts counts)
-          record {
-            lines = l ∙ f.lines_are ∙ ap (λ (m : ℕ). raised 0 m) (same_length q.skip q.take (made_lines q (rows_of (front f.count (blocks_at files names fields places)))) (made q (rows_of (front f.count (blocks_at files names fields places)))) (made_long q (rows_of (front f.count (blocks_at files names fields places))) (made_lines q (rows_of (front f.count (blocks_at files names fields places)))) refl));
-            read = r ∙ f.read_are;
-            chunks = c ∙ f.chunks_are;
-            kept = k ∙ f.kept_are;
-          }
+      subst (λ (b : List Block). SumsTo q b sum) (one_count q (blocks_at files names fields places) f.count count f.counts counts)
+      record {
+        lines = l ∙ f.lines_are ∙ ap (λ (m : ℕ). raised 0 m) (same_length q.skip q.take (made_lines q (rows_of (front f.count (blocks_at files names fields places)))) (made q (rows_of (front f.count (blocks_at files names fields places)))) (made_long q (rows_of (front f.count (blocks_at files names fields places))) (made_lines q (rows_of (front f.count (blocks_at files names fields places)))) refl));
+        read = r ∙ f.read_are;
+        chunks = c ∙ f.chunks_are;
+        kept = k ∙ f.kept_are;
+      }
       in
       record {
         skipped = s ∙ sym same.1;

@@ -125,7 +125,16 @@ fn run_job<F: Files, O: Out>(
         skip: query.skip,
         take: query.take,
     };
-    match scan_all(alloc, &mut scanner, &cut, names, &found.fields, &found.places, files, out) {
+    match scan_all(
+        alloc,
+        &mut scanner,
+        &cut,
+        names,
+        &found.fields,
+        &found.places,
+        files,
+        out,
+    ) {
         Ok(done) => Ok(QuerySum {
             lines: done.lines,
             read: done.read,
