@@ -6,3 +6,6 @@ mod Explaining
 mod Ending
 mod Asking
 pub mod Built
+mod SomeNamed
+mod CheckedFiles
+mod OneChecked

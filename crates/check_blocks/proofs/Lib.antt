@@ -1,0 +1,2 @@
+mod BadBlocks
+mod Finding
