@@ -46,13 +46,12 @@ lowered_is_plain q h =
     let b = both _ _ a.1 in
     let c = both _ _ b.1 in
     let d = both _ _ c.1 in
-    let e = both _ _ d.1 in
     record {
       outs = a.0;
       filter = b.0;
       keys = is_the_empty q.keys c.0;
       having = is_the_none q.having d.0;
-      order = is_the_empty q.order e.0;
+      order = is_the_empty q.order d.1;
     }
 
 -- no aggregate stands in such an expression

@@ -19,8 +19,8 @@ abbrev pub is_lowered_filter : Option Ex → Bool
 is_lowered_filter None = true
 is_lowered_filter (Some e) = is_lowered_ex e
 
--- outputs and WHERE without aggregates, and without GROUP BY, HAVING, ORDER BY and LIMIT, and with OFFSET 0 or none
+-- outputs and WHERE without aggregates, and without GROUP BY, HAVING and ORDER BY
 unfoldable pub is_lowered : Query → Bool
 is_lowered q =
     are_lowered_outs q.outs
-    && (is_lowered_filter q.filter && (length q.keys == 0 && (is_none q.having && (length q.order == 0 && (is_none q.take && q.skip == 0)))))
+    && (is_lowered_filter q.filter && (length q.keys == 0 && (is_none q.having && length q.order == 0)))

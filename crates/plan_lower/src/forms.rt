@@ -7,8 +7,8 @@ ghost use Rattle.plan_lower.specs.Forms as forms;
 use query_tree::{Exprs, Operand, OutItems, Outputs, Query};
 use query_walk::{Asked, has_part};
 
-/// Whether the query makes an output of each row that passes, in any order, and nothing else: no aggregate stands in its outputs
-/// and in WHERE, there is no GROUP BY, HAVING, ORDER BY and LIMIT, and OFFSET is 0.
+/// Whether the query makes an output of each row that passes, in any order, of which LIMIT and OFFSET may leave some out: no
+/// aggregate stands in its outputs and in WHERE, and there is no GROUP BY, HAVING and ORDER BY.
 #[tactic(auto, unfolding(crate::specs::Forms::is_lowered))]
 pub fn is_lowered(query: &Query) -> bool
     ensures { result ≡ forms.is_lowered (query_view query.now) }
@@ -18,8 +18,6 @@ pub fn is_lowered(query: &Query) -> bool
         && query.keys.len() == 0
         && query.having.is_none()
         && query.order.len() == 0
-        && query.take.is_none()
-        && query.skip == 0
 }
 
 fn are_lowered_outs(keys: &Exprs, outputs: &Outputs) -> bool

@@ -24,7 +24,7 @@ use Rattle.query_run.specs.declared.query_fault.QueryFault.{QueryFault}
 use Rattle.query_run.specs.declared.query_fault.QueryFault.TheVariants.{Text, Absent, NotAFile, Damaged, ReadFault, WriteFault, OutOfMemory}
 use Rattle.query_run.proofs.Built.{one_accepted, not_both, same_query}
 use Rattle.check_meaning.specs.Verdict.{fault_of}
-use Rattle.query_run.proofs.Forms.{lowered_is_uncut}
+use Rattle.query_run.proofs.Forms.{lowered_is_unsorted}
 use Rattle.query_run.proofs.Sink.{Keeps-same}
 use Rattle.query_run.proofs.Ending.{memory_end}
 
@@ -33,7 +33,7 @@ no_length {A} xs e = ap (λ (l : List A). length l == 0) e
 
 -- a query of a form that is answered neither groups nor sorts
 pub is_plain_one : (q : Query) → is_lowered q ≡ true → is_plain q ≡ true
-is_plain_one q built = ap (λ (b : Bool). not b && (length q.order == 0)) (is_ungrouped q built) ∙ no_length q.order (lowered_is_uncut q built).order
+is_plain_one q built = ap (λ (b : Bool). not b && (length q.order == 0)) (is_ungrouped q built) ∙ no_length q.order (lowered_is_unsorted q built)
 
 pub text_ends : (sql : List ℕ) (names : List (List ℕ)) (told : Option Contents) (fault : QueryFault) (a : Option (List ℕ)) → SaysOfText sql fault → Ends sql names told (status_of fault) a a
 text_ends sql names told (Text f) a h = record {

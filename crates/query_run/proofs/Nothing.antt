@@ -12,12 +12,12 @@ use Rattle.query_run.specs.Queries.{Accepts}
 use Rattle.query_run.specs.Headline.{Headline}
 use Rattle.query_run.specs.Ends.{Ends, Reads}
 use Rattle.query_run.specs.Checking.{Checks}
-use Rattle.query_run.proofs.Forms.{IsUncut, lowered_is_uncut}
+use Rattle.query_run.proofs.Forms.{lowered_is_unsorted}
 use Rattle.query_run.proofs.Plain.{nothing}
 use Rattle.query_run.proofs.Sink.{Keeps-same, Appends-nothing}
 
 unsorted : (sql : List ℕ) (q : Query) → Accepts sql q → q.order ≡ []
-unsorted sql q accepts = (lowered_is_uncut q accepts.built).order
+unsorted sql q accepts = lowered_is_unsorted q accepts.built
 
 pub memory_allowed : (v : Verdict) → IsAmong 10 (statuses v)
 memory_allowed (no_such_file zero) = refl
