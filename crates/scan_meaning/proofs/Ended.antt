@@ -43,9 +43,9 @@ module _ (q : Query) (plain : is_plain q ≡ true) (bs : List Block) (rows : Lis
   more : IsPermutation (made q (rows_of (wanted q bs)) ++ extra) (made q rows)
   more =
       let left : made q (rows_of (wanted q bs)) ++ extra ≡ map (made_row q) (passed q (rows_of (wanted q bs)) ++ passed q s.rest) =
-          ap (λ (l : List Made). l ++ extra) (made_is q plain (rows_of (wanted q bs))) ∙ sym (map-append (made_row q) (passed q (rows_of (wanted q bs))) (passed q s.rest)) in
+      ap (λ (l : List Made). l ++ extra) (made_is q plain (rows_of (wanted q bs))) ∙ sym (map-append (made_row q) (passed q (rows_of (wanted q bs))) (passed q s.rest)) in
       let moved : IsPermutation (map (made_row q) (passed q (rows_of (wanted q bs)) ++ passed q s.rest)) (map (made_row q) (passed q rows)) =
-          IsPermutation-map (made_row q) (passed q (rows_of (wanted q bs)) ++ passed q s.rest) (passed q rows) s.permutes in
+      IsPermutation-map (made_row q) (passed q (rows_of (wanted q bs)) ++ passed q s.rest) (passed q rows) s.permutes in
       subst (λ (l : List Made). IsPermutation l (made q rows)) (sym left)
       (subst (λ (l : List Made). IsPermutation (map (made_row q) (passed q (rows_of (wanted q bs)) ++ passed q s.rest)) l) (sym (made_is q plain rows)) moved)
 

@@ -128,7 +128,6 @@ in_any_order q none rows ms perm =
       cut = refl;
     }
 
-
 module _ (q : Query) (plain : is_plain q ≡ true) (rows all : List Val) (more : List Made) (perm : IsPermutation (made q rows ++ more) (made q all)) where
   abbrev behind : List Output
   behind = cut (q.skip - length (made q rows)) (left_of q.take (length (made q rows) - q.skip)) (outputs_of more)
@@ -139,11 +138,10 @@ module _ (q : Query) (plain : is_plain q ≡ true) (rows all : List Val) (more :
       let moved : IsPermutation (made q all) ms = IsPermutation-trans (made q all) (made q rows ++ more) ms (IsPermutation-sym (made q rows ++ more) (made q all) perm) (IsPermutation-append_left more (made q rows) a.arrangement a.permutes) in
       let long : length (outputs_of a.arrangement) ≡ length (made q rows) = length-map a.arrangement (λ (m : Made). m.output) ∙ length_permutation (made q rows) a.arrangement a.permutes in
       let parts : cut q.skip q.take (outputs_of ms) ≡ outputs ++ behind =
-          ap (λ (l : List Output). cut q.skip q.take l) (map-append (λ (m : Made). m.output) a.arrangement more)
-          ∙ cut_both q.skip q.take (outputs_of a.arrangement) (outputs_of more)
-          ∙ ap (λ (l : List Output). l ++ cut (q.skip - length (outputs_of a.arrangement)) (left_of q.take (length (outputs_of a.arrangement) - q.skip)) (outputs_of more)) (sym a.cut)
-          ∙ ap (λ (n : ℕ). outputs ++ cut (q.skip - n) (left_of q.take (n - q.skip)) (outputs_of more)) long in
-      (
+      ap (λ (l : List Output). cut q.skip q.take l) (map-append (λ (m : Made). m.output) a.arrangement more)
+      ∙ cut_both q.skip q.take (outputs_of a.arrangement) (outputs_of more)
+      ∙ ap (λ (l : List Output). l ++ cut (q.skip - length (outputs_of a.arrangement)) (left_of q.take (length (outputs_of a.arrangement) - q.skip)) (outputs_of more)) (sym a.cut)
+      ∙ ap (λ (n : ℕ). outputs ++ cut (q.skip - n) (left_of q.take (n - q.skip)) (outputs_of more)) long in (
         cut q.skip q.take (outputs_of ms),
         in_any_order q (unsorted q plain) all ms moved,
         ap (λ (l : List Output). print l) parts ∙ flat_map-append line_text outputs behind,

@@ -21,6 +21,7 @@ closing_closes q (b ∷ c ∷ bs) n e =
     pair : ((m : ℕ) → closing q bs ≡ Some m → closes q (take m bs) ≡ true) → (b == q) ≡ true → (c == q) ≡ true → (o : Option ℕ) → closing q bs ≡ o → or_one o ≡ Some n → closes q (take n (b ∷ c ∷ bs)) ≡ true
     pair more t u None f g = rw (← some_is _ _ g) t
     pair more t u (Some m) f g = rw (← some_is _ _ g, t, u) (more m f)
+
     later : ((m : ℕ) → closing q (c ∷ bs) ≡ Some m → closes q (take m (c ∷ bs)) ≡ true) → (b == q) ≡ false → (m : ℕ) → closing q (c ∷ bs) ≡ Some m → closes q (take (suc m) (b ∷ c ∷ bs)) ≡ true
     later more t zero f = let none = more 0 f in absurd cc
     later more t (suc m) f = rw t (more (suc m) f)
@@ -54,9 +55,11 @@ closing_most q (b ∷ c ∷ bs) (suc (suc m)) h j = go (closing_most q bs) (clos
     pair more zero i o e g = refl
     pair more (suc m) i None e g = more (suc m) (rw e (omega arith)) i
     pair more (suc m) i (Some n) e g = more (suc m) (rw e (omega (arith, g))) i
+
     later : (past (closing q (c ∷ bs)) < suc m → suc m ≤ length (c ∷ bs) → closes q (take (suc m) (c ∷ bs)) ≡ false) → (o : Option ℕ) → closing q (c ∷ bs) ≡ o → past (option_map suc o) < suc (suc m) → closes q (take (suc m) (c ∷ bs)) ≡ false
     later more None e g = more (rw e (omega arith)) (omega (arith, j))
     later more (Some n) e g = more (rw e (omega (arith, g))) (omega (arith, j))
+
     go : ((m : ℕ) → past (closing q bs) < m → m ≤ length bs → closes q (take m bs) ≡ false) → (past (closing q (c ∷ bs)) < suc m → suc m ≤ length (c ∷ bs) → closes q (take (suc m) (c ∷ bs)) ≡ false) → (t u : Bool) → (b == q) ≡ t → (c == q) ≡ u → past (cond t (cond u (or_one (closing q bs)) (Some 1)) (option_map suc (closing q (c ∷ bs)))) < suc (suc m) → closes q (b ∷ c ∷ take m bs) ≡ false
     go two one true true e f g = rw (e, f) (pair two m (omega (arith, j)) (closing q bs) refl g)
     go two one true false e f g = rw (e, f) refl

@@ -38,7 +38,7 @@ are_taken zero at (b ∷ bs) ss w h =
     let place : at + 1 + (c.1 - 1) ≡ at + c.1 = omega (arith, token.some) in
     let fits : c.1 - 1 ≤ length bs = omega (arith, token.some, token.within) in
     let more : AreTaken (at + c.1) (drop c.1 (b ∷ bs)) rest =
-        rw (← place, ← behind c.1 b bs token.some) (are_taken (c.1 - 1) (at + 1) bs rest fits r) in
+    rw (← place, ← behind c.1 b bs token.some) (are_taken (c.1 - 1) (at + 1) bs rest fits r) in
     rw (← g) (taken token more)))))
 
 pub tokens-taken : (text : List ℕ) (ss : List Span) → spans_of text ≡ Ok ss → AreTaken 0 text ss

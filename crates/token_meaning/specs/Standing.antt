@@ -32,9 +32,9 @@ pub data AreTaken : ℕ → List ℕ → List Span → Type 0 where
   ended : {at : ℕ} → AreTaken at [] []
   -- a blank is passed
   blank : {at b : ℕ} {bs : List ℕ} {ss : List Span} → is_space b ≡ true
-    → AreTaken (at + 1) bs ss
-    → AreTaken at (b ∷ bs) ss
+      → AreTaken (at + 1) bs ss
+      → AreTaken at (b ∷ bs) ss
   -- a token is taken
   taken : {at n : ℕ} {kind : TokenKind} {bytes : List ℕ} {ss : List Span} → IsLongest kind n bytes
-    → AreTaken (at + n) (drop n bytes) ss
-    → AreTaken at bytes (record { kind = kind; from = at; to = at + n } ∷ ss)
+      → AreTaken (at + n) (drop n bytes) ss
+      → AreTaken at bytes (record { kind = kind; from = at; to = at + n } ∷ ss)
