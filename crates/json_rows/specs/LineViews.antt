@@ -6,6 +6,7 @@ use Rattle.json_rows.specs.declared.lines.LineRead.TheVariants.{Blank, Row}
 use Rattle.json_rows.specs.declared.lines.LineFault.{LineFault}
 use Rattle.json_rows.specs.declared.lines.LineFault.TheVariants.{Refused, OutOfMemory}
 use Rattle.snel_values.specs.View.{view}
+use Rattle.write_meaning.specs.Standing.{IsWritableRow}
 use Rattle.pack_meaning.specs.declared.LineWhy.{LineWhy}
 use Rattle.pack_meaning.specs.Lines.{Settings, Line, blank, refused, row}
 
@@ -26,3 +27,9 @@ counted (row v dropped) = row v (min dropped (2 ^ 64 - 1))
 abbrev pub reason_of : LineFault → Option LineWhy
 reason_of (Refused why) = Some why
 reason_of OutOfMemory = None
+
+-- the row, if there is one, may stand in a block
+abbrev pub MayStand : Line → Type 0
+MayStand blank = Unit {0}
+MayStand (refused why) = Unit {0}
+MayStand (row v dropped) = IsWritableRow v

@@ -1,10 +1,11 @@
 //! From what `serde_json` reads to the values of rows.
-ghost use Rattle.std.specs.Prelude.{◌≡◌, ◌+◌, IfOk, OnOk, option_map, option_copied};
+ghost use Rattle.std.specs.Prelude.{◌≡◌, [], ◌∷◌, ◌++◌, IfOk, OnOk, IfSome, option_map, unwrap_or};
 ghost use Rattle.serde_json.specs.View.{view as data_of, items_view, members_view, number_view};
 ghost use Rattle.serde_json.specs.Data.{number as number_data};
 ghost use Rattle.snel_values.specs.View.{view};
-ghost use Rattle.value_meaning.specs.Val.{vals, fields};
+ghost use Rattle.value_meaning.specs.Val.{vals, fields, null};
 ghost use Rattle.pack_meaning.specs.Rows as rows;
+ghost use Rattle.block_meaning.specs.Stored.{HasStoredParts, HaveStoredParts, PairsHaveStoredParts};
 ghost use Rattle.json_rows.specs.Counts.{raised};
 
 use serde_json::{Map, Number};
@@ -16,6 +17,7 @@ use time_text::read_time;
 fn number(n: &Number, dropped: &mut u64) -> Option<Value>
     ensures value { option_map view result ≡ rows.value_in (number_data (number_view n.now)) }
     ensures counts { dropped.new ≡ raised dropped.old (rows.fractions (number_data (number_view n.now))) }
+    ensures stored { IfSome result (λ v. HasStoredParts (view v)) }
 {
     let _count = *dropped;
     match n.as_i64() {
@@ -36,6 +38,7 @@ pub(crate) fn value_in(
 ) -> Result<Option<Value>, OutOfMemory>
     ensures value { IfOk result (λ o. option_map view o ≡ rows.value_in (data_of json.now)) }
     ensures counts { OnOk result (dropped.new ≡ raised dropped.old (rows.fractions (data_of json.now))) }
+    ensures stored { IfOk result (λ o. IfSome o (λ v. HasStoredParts (view v))) }
 {
     let _count = *dropped;
     match json {
@@ -50,6 +53,20 @@ pub(crate) fn value_in(
     }
 }
 
+/// Adds the value, NULL for a fraction.
+#[tactic(auto, using(crate::proofs::Stored::stored_item))]
+fn push_or_null(values: &mut Items, value: Option<Value>) -> Result<(), OutOfMemory>
+    ensures ok { OnOk result (values.new ≡ values.old ++ unwrap_or (option_map view value) null ∷ []) }
+    ensures stored { IfSome value (λ v. HasStoredParts (view v)) → HaveStoredParts (vals values.old)
+        → OnOk result (HaveStoredParts (vals values.new)) }
+{
+    match value {
+        Some(value) => values.push(value)?,
+        None => values.push(Value::Null)?,
+    }
+    Ok(())
+}
+
 /// The items, each fraction as NULL.
 #[cycle(convert)]
 fn values_in(
@@ -59,12 +76,13 @@ fn values_in(
 ) -> Result<Items, OutOfMemory>
     ensures value { IfOk result (λ vs. vals vs ≡ rows.values_in (items_view items.now.items)) }
     ensures counts { OnOk result (dropped.new ≡ raised dropped.old (rows.item_fractions (items_view items.now.items))) }
+    ensures stored { IfOk result (λ vs. HaveStoredParts (vals vs)) }
 {
     let _count = *dropped;
     let mut values = Items::new(alloc);
     for item in items {
         let value = value_in(alloc, item, dropped)?;
-        values.push(value.unwrap_or(Value::Null))?;
+        push_or_null(&mut values, value)?;
     }
     Ok(values)
 }
@@ -102,6 +120,7 @@ pub(crate) fn pairs_in(
 ) -> Result<Pairs, OutOfMemory>
     ensures value { IfOk result (λ fs. fields fs ≡ rows.timed (option_map (λ s. s.now) time_field.entry) (rows.pairs_in (members_view members.now.entries))) }
     ensures counts { OnOk result (dropped.new ≡ raised dropped.old (rows.member_fractions (members_view members.now.entries))) }
+    ensures stored { IfOk result (λ fs. PairsHaveStoredParts (fields fs)) }
 {
     let _count = *dropped;
     let mut pairs = Pairs::new(alloc);

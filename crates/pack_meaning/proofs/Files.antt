@@ -42,7 +42,7 @@ writable_split [] b h = (tt, h)
 writable_split (v ∷ a) b h = let rest = writable_split a b h.1 in ((h.0, rest.0), rest.1)
 
 -- the blocks of a cut may be blocks of a file
-parts : (most : ℕ) (blocks : List Rows) (rows : Rows) → AreCut most blocks rows → AreSound (vals rows) → AreWritableRows rows → AreParts most blocks
+pub parts : (most : ℕ) (blocks : List Rows) (rows : Rows) → AreCut most blocks rows → AreSound (vals rows) → AreWritableRows rows → AreParts most blocks
 parts most [] rows c s w = tt
 parts most (b ∷ bs) rows c s w =
     let rest = c.0 in

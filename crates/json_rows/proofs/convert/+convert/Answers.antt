@@ -3,6 +3,8 @@ use Rattle.serde_json.specs.View.{view as data_of, items_view, members_view}
 use Rattle.snel_values.specs.View.{view}
 use Rattle.pack_meaning.specs.Rows.{value_in, timed_value, member_fractions}
 use Rattle.json_rows.specs.Counts.{raised}
+use Rattle.block_meaning.specs.Stored.{HasStoredParts}
+use Rattle.json_rows.proofs.Stored.{stored_pair, stored_timed}
 use Rattle.json_rows.proofs.Converting.{Entry, pairs_left, Rises, rises_first, rises_skipped, rises_pushed, items_done, items_counted, pairs_done, members_counted, pair_made, pair_left_out, member_counted}
 use Rattle.json_rows.proofs.convert.+convert.Goals as goal
 
@@ -26,6 +28,7 @@ pairs_in-loop-name-init t c =
       made = refl;
       fits = omega arith;
       counted = refl;
+      stored = tt;
     })
 
 pub pairs_in-loop-name-preserved-in_ok-push : goal.pairs_in-loop-name-preserved-in_ok-push
@@ -42,11 +45,14 @@ pairs_in-loop-name-preserved-in_ok-push t c =
     let in_time : w ≡ timed_value tf (string_bytes e.0) v = c.timed_value-value.ensures ∙ ap (λ n. timed_value tf n v) c.as_str.ensures.value in
     let grown : c.push.new.self ≡ l.pairs ++ (string_bytes e.0, w) ∷ [] = rw (← named) c.in_ok-push.ensures.ok in
     let rises : Rises l.pairs (e ∷ left) = subst (Rises l.pairs) step l.invariant.rises in
+    let made : HasStoredParts v = rw c.in-Some-2.is at c.in_ok-value.ensures.stored in
+    let stored : HasStoredParts w = subst HasStoredParts (sym in_time) (stored_timed tf (string_bytes e.0) v made) in
     record {
       rises = rw grown (rises_pushed l.pairs e w left rises);
       made = pair_made tf l.pairs c.push.new.self e left v w _ found in_time grown (rw step at l.invariant.made);
       fits = omega (arith, c.in_ok-value.ensures.counts);
       counted = member_counted e left l.dropped c.value_in.new.dropped _ c.in_ok-value.ensures.counts (rw step at l.invariant.counted);
+      stored = rw grown (stored_pair l.pairs (string_bytes e.0) w l.invariant.stored stored);
     }
 
 pub pairs_in-loop-name-preserved : goal.pairs_in-loop-name-preserved
@@ -64,4 +70,5 @@ pairs_in-loop-name-preserved t c =
       made = pair_left_out tf l.pairs e left _ found (rw step at l.invariant.made);
       fits = omega (arith, c.in_ok-value.ensures.counts);
       counted = member_counted e left l.dropped c.value_in.new.dropped _ c.in_ok-value.ensures.counts (rw step at l.invariant.counted);
+      stored = l.invariant.stored;
     }

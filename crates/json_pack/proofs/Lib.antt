@@ -1,0 +1,5 @@
+pub mod FirstLine
+pub mod LineByLine
+pub mod Consumed
+pub mod PackedLines
+pub mod Making

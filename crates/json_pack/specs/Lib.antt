@@ -1,0 +1,3 @@
+pub mod Packs
+pub mod FirstLine
+pub mod Reading

@@ -1,0 +1,132 @@
+//! From an input of lines to a block file.
+ghost use Rattle.std.specs.Prelude.{◌≡◌, ◌↔◌, ◌≤◌, ◌-◌, ℕ, length, take, IfOk, IfErr, OnOk, OnErr, IfSome, IsSome, IsErrOf};
+ghost use Rattle.std.specs.Option.{ForSome};
+ghost use Rattle.std.specs.Io.KnownBytes.{IsAtEnd};
+ghost use Rattle.snel_device.specs.Causes.{HasCause};
+ghost use Rattle.snel_device.specs.Contents.{Sets, Extends};
+ghost use Rattle.pack_meaning.specs.Splitting.{lines_of};
+ghost use Rattle.pack_meaning.specs.Packing.{refusal, sum_of};
+ghost use Rattle.json_rows.specs.LineViews.{settings_view};
+ghost use Rattle.json_pack.specs.Packs.{sum_view, counted, refusal_in, file_for, HoldsLines, HasFrontOf, LeavesFront};
+
+use crate::input::{BytesFault, read_all};
+use crate::packed::pack_bytes;
+use crate::sums::{PackFault, PackSum};
+use json_rows::PackSettings;
+use snel_device::{Files, FreshFault, Input};
+use std::alloc::Global;
+
+/// Packs the lines of the input into a new file of this name, in blocks of rows that weigh at most `settings.block`
+/// together.
+///
+/// Where the input is told: at `Ok` no line is refused, and the file holds just the rows of the lines, in their order; it
+/// is the one file of these rows. `Line` names the first line that is refused, and why. After another answer than `Ok`
+/// the file, if this call made it, has a front of the file of the rows of the lines before the fault.
+///
+/// The input is read whole before its lines are, and the file is appended in one piece: memory holds the input, its rows and
+/// the file. An input of more than 2^42 bytes is want of memory.
+///
+/// `Exists` comes exactly where there is a file of this name, `ReadFault` only where the count of faults of the input rose,
+/// and `WriteFault` only where that of the files' write faults did.
+pub fn pack<F: Files, I: Input>(
+    alloc: Global,
+    name: &str,
+    settings: &PackSettings<'_>,
+    files: &mut F,
+    input: &mut I,
+) -> Result<PackSum, PackFault>
+    requires block { settings.now.block ≤ 1_000_000 }
+    requires time { IfSome settings.now.time (λ field. (1 ≤ length field.now) × (length field.now ≤ 255)) }
+
+    ensures accepted { OnOk result (ForSome (I.left input.old)
+        (λ bytes. refusal (settings_view settings.now) (lines_of bytes) ≡ None)) }
+    ensures file { OnOk result (ForSome (I.left input.old) (λ bytes.
+        Sets (F.told files.old) (F.told files.new) name.now
+        (file_for (settings_view settings.now) (lines_of bytes)))) }
+    ensures holds { OnOk result (ForSome (I.left input.old)
+        (λ bytes. HoldsLines (settings_view settings.now) (lines_of bytes))) }
+    ensures sum { IfOk result (λ sum. ForSome (I.left input.old) (λ bytes. sum_view sum
+        ≡ counted (sum_of (settings_view settings.now) (lines_of bytes)))) }
+    ensures ended { OnOk result (ForSome (I.left input.old) (λ bytes. IsAtEnd (I.left input.new))) }
+
+    ensures refused { IfErr result (λ fault. IfSome (refusal_in fault) (λ r. ForSome (I.left input.old)
+        (λ bytes. refusal (settings_view settings.now) (lines_of bytes) ≡ Some r))) }
+    ensures before { IfErr result (λ fault. IfSome (refusal_in fault) (λ r. ForSome (I.left input.old)
+        (λ bytes. HasFrontOf (settings_view settings.now) (take (r.number - 1) (lines_of bytes))
+        (F.told files.old) (F.told files.new) name.now))) }
+    ensures front { OnErr result (ForSome (I.left input.old) (λ bytes. LeavesFront
+        (settings_view settings.now) (lines_of bytes)
+        (F.told files.old) (F.told files.new) name.now)) }
+
+    ensures exists { ForSome (F.told files.old) (λ told. IsErrOf result PackFault.Exists
+        ↔ IsSome (told name.now)) }
+    ensures missed { HasCause (F.misses files.old) (F.misses files.new)
+        (IsErrOf result PackFault.Exists) }
+    ensures read_fault { HasCause (I.faults input.old) (I.faults input.new)
+        (IsErrOf result PackFault.ReadFault) }
+    ensures write_fault { HasCause (F.write_faults files.old) (F.write_faults files.new)
+        (IsErrOf result PackFault.WriteFault) }
+    ensures same_read_faults { F.read_faults files.new ≡ F.read_faults files.old }
+    ensures same_taken { F.taken files.new ≡ F.taken files.old }
+{
+    match files.fresh(name) {
+        Ok(()) => fill(alloc, name, settings, files, input),
+        Err(FreshFault::Exists) => Err(PackFault::Exists),
+        Err(FreshFault::Failed) => Err(PackFault::WriteFault),
+    }
+}
+
+/// Adds the file of the lines' rows to the empty file of this name.
+fn fill<F: Files, I: Input>(
+    alloc: Global,
+    name: &str,
+    settings: &PackSettings<'_>,
+    files: &mut F,
+    input: &mut I,
+) -> Result<PackSum, PackFault>
+    requires block { settings.now.block ≤ 1_000_000 }
+    requires time { IfSome settings.now.time (λ field. (1 ≤ length field.now) × (length field.now ≤ 255)) }
+    requires there { ForSome (F.told files.old) (λ told. IsSome (told name.now)) }
+
+    ensures accepted { OnOk result (ForSome (I.left input.old)
+        (λ bytes. refusal (settings_view settings.now) (lines_of bytes) ≡ None)) }
+    ensures file { OnOk result (ForSome (I.left input.old) (λ bytes.
+        Extends (F.told files.old) (F.told files.new) name.now
+        (file_for (settings_view settings.now) (lines_of bytes)))) }
+    ensures holds { OnOk result (ForSome (I.left input.old)
+        (λ bytes. HoldsLines (settings_view settings.now) (lines_of bytes))) }
+    ensures sum { IfOk result (λ sum. ForSome (I.left input.old) (λ bytes. sum_view sum
+        ≡ counted (sum_of (settings_view settings.now) (lines_of bytes)))) }
+    ensures ended { OnOk result (ForSome (I.left input.old) (λ bytes. IsAtEnd (I.left input.new))) }
+
+    ensures refused { IfErr result (λ fault. IfSome (refusal_in fault) (λ r. ForSome (I.left input.old)
+        (λ bytes. refusal (settings_view settings.now) (lines_of bytes) ≡ Some r))) }
+    ensures unchanged { IfErr result (λ fault. IfSome (refusal_in fault)
+        (λ r. F.told files.new ≡ F.told files.old)) }
+    ensures front { OnErr result (ForSome (I.left input.old) (λ bytes. (n : ℕ)
+        × Extends (F.told files.old) (F.told files.new) name.now
+        (take n (file_for (settings_view settings.now) (lines_of bytes))))) }
+
+    ensures not_exists { IsErrOf result PackFault.Exists → ⊥ }
+    ensures read_fault { HasCause (I.faults input.old) (I.faults input.new)
+        (IsErrOf result PackFault.ReadFault) }
+    ensures write_fault { HasCause (F.write_faults files.old) (F.write_faults files.new)
+        (IsErrOf result PackFault.WriteFault) }
+    ensures same_misses { F.misses files.new ≡ F.misses files.old }
+    ensures same_read_faults { F.read_faults files.new ≡ F.read_faults files.old }
+    ensures same_taken { F.taken files.new ≡ F.taken files.old }
+{
+    let bytes = match read_all(alloc, input) {
+        Ok(bytes) => bytes,
+        Err(BytesFault::Failed) => return Err(PackFault::ReadFault),
+        Err(BytesFault::OutOfMemory) => return Err(PackFault::OutOfMemory),
+    };
+    let packed = match pack_bytes(alloc, bytes.as_slice(), settings) {
+        Ok(packed) => packed,
+        Err(fault) => return Err(fault),
+    };
+    match files.append(name, packed.file.as_slice()) {
+        Ok(()) => Ok(packed.sum),
+        Err(_) => Err(PackFault::WriteFault),
+    }
+}
