@@ -1,14 +1,12 @@
 -- When statuses come.
-use Rattle.std.proofs.Common.{◌≡◌, ◌⊎◌, inl, inr, ℕ, List, [], ◌∷◌, Bool, true, false, eqb, Option, Some, None, Result, Ok, Err, refl, ap, sym, subst, ◌∙◌, arith}
+use Rattle.std.proofs.Common.{◌≡◌, ◌⊎◌, inl, inr, ℕ, List, [], ◌∷◌, Bool, true, false, eqb, Option, Some, Result, Ok, Err, refl, ap, sym, subst, ◌∙◌, arith}
 use Rattle.std.proofs.lemmas.Bool.Decides.{nat_tests}
 use Rattle.std.specs.Prelude.{IsTrue, ◌==◌}
 use Rattle.std.specs.List.{list_any}
-use Rattle.std.specs.Option.{ForSome}
-use Rattle.snel_device.specs.Causes.{Rose}
 use Rattle.snel_device.specs.Contents.{Contents}
 use Rattle.scan_meaning.specs.Verdicts.{IsAmong}
 use Rattle.scan_meaning.specs.Opened.{Named}
-use Rattle.scan_meaning.specs.Checks.{Checked, sound, checked_from, check_statuses, ChecksAs}
+use Rattle.scan_meaning.specs.Checks.{Checked, sound, checked_from, check_statuses}
 use Rattle.scan_meaning.proofs.Batches.{first_of_all}
 use Rattle.scan_meaning.proofs.Named.{all_named}
 use Rattle.query_run.specs.declared.text_fault.TextFault.{TextFault}

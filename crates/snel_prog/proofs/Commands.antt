@@ -1,9 +1,9 @@
 -- What each command's own call says of how it came out.
-use Rattle.std.proofs.Common.{◌≡◌, ℕ, Bool, true, false, List, Option, Some, None, Result, Ok, Err, ◌≤◌, refl, ap, subst, sym, ◌∙◌, arith}
+use Rattle.std.proofs.Common.{◌≡◌, ℕ, Bool, true, false, List, Option, None, Result, Ok, Err, ◌≤◌, refl, ap, subst, ◌∙◌, arith}
 use Rattle.std.specs.Prelude.{length}
 use Rattle.snel_device.specs.Contents.{Contents}
 use Rattle.tree_meaning.specs.Tree.{Query as QueryTree}
-use Rattle.scan_meaning.specs.Batches.{is_plain, front, Counts}
+use Rattle.scan_meaning.specs.Batches.{front}
 use Rattle.query_run.specs.declared.query_fault.QueryFault.{QueryFault}
 use Rattle.query_run.specs.declared.query_fault.QueryFault.TheVariants.{Text, Absent, NotAFile, Damaged, ReadFault, WriteFault, OutOfMemory}
 use Rattle.query_run.specs.declared.sum.QuerySum.{QuerySum}
@@ -16,7 +16,7 @@ use Rattle.query_run.specs.Checking.{HasCheckCause}
 use Rattle.query_run.specs.Sums.{SumsUp}
 use Rattle.query_run.specs.Headline as query_headline
 use Rattle.snel_words.specs.declared.ask.Settings.{Settings}
-use Rattle.snel_words.specs.Words.{Ask, Packing, nothing, query, check, pack, explain}
+use Rattle.snel_words.specs.Words.{Packing, nothing, query, check, pack, explain}
 use Rattle.snel_prog.specs.declared.outcome.Refusal.{Refusal}
 use Rattle.snel_prog.specs.declared.outcome.Refusal.TheVariants.{Words, Query, Pack}
 use Rattle.snel_prog.specs.declared.outcome.Done.{Done}

@@ -1,10 +1,8 @@
 -- How a call may end that found no memory for its words.
-use Rattle.std.proofs.Common.{◌≡◌, ℕ, List, [], ◌∷◌, Option, Some, None, Err, refl, sym, inl, inr, append-nil, arith}
+use Rattle.std.proofs.Common.{ℕ, List, [], Option, Some, None, Err, refl, sym, inl, inr, append-nil, arith}
 use Rattle.std.specs.Io.KnownBytes.{Appends}
-use Rattle.std.specs.Option.{ForSome}
 use Rattle.snel_device.specs.Contents.{Contents}
 use Rattle.query_run.specs.declared.query_fault.QueryFault.TheVariants.{OutOfMemory}
-use Rattle.query_run.specs.Explained.{EndsExplained}
 use Rattle.query_run.proofs.Nothing as of_query
 use Rattle.snel_words.specs.Words.{Ask, nothing, query, check, pack, explain}
 use Rattle.snel_prog.specs.declared.outcome.Refusal.TheVariants.{Query}

@@ -1,5 +1,5 @@
 -- What a pack's own call says of how it came out.
-use Rattle.std.proofs.Common.{◌≡◌, ◌⊎◌, inl, inr, ◌↔◌, ℕ, ◌-◌, List, [], ◌++◌, length, take, Option, Some, None, Result, Ok, Err, refl, sym, ap, subst, ◌∙◌, append-nil, arith}
+use Rattle.std.proofs.Common.{◌≡◌, ◌⊎◌, inl, inr, ◌↔◌, ℕ, ◌-◌, List, [], length, take, Option, Some, None, Result, Ok, Err, refl, sym, ap, subst, ◌∙◌, append-nil, arith}
 use Rattle.std.specs.Prelude.{IfSome, IsSome, IsErrOf}
 use Rattle.std.specs.Option.{ForSome}
 use Rattle.std.specs.Io.KnownBytes.{Appends, Keeps}
@@ -14,7 +14,6 @@ use Rattle.json_pack.specs.declared.sums.PackSum.{PackSum}
 use Rattle.json_pack.specs.Packs.{counted, refusal_in, file_for, HoldsLines, HasFrontOf, LeavesFront}
 use Rattle.snel_words.specs.Words.{Packing}
 use Rattle.snel_prog.specs.Outcomes.{status_of_pack}
-use Rattle.snel_prog.specs.Exactly.{Exactly}
 use Rattle.snel_prog.specs.Packs.{settings_of, sum_line, line_for, EndsPack, SaysOfPack, IsAllAccepted, MakesFile, ComesOfPack}
 use Rattle.snel_prog.proofs.Sink.{Keeps-same}
 
@@ -104,7 +103,7 @@ module _ (p : Packing) (name : List ℕ) (told : Option Contents) (left : Option
 
   stopped : (f : PackFault) (old new : Option Contents) → Refuses f → Stops f old new → status_of_pack f ≡ 11
       → ForSome left (λ bytes. (r : Refusal) × (refusal (settings_of p) (lines_of bytes) ≡ Some r) × HasFrontOf (settings_of p) (take (r.number - 1) (lines_of bytes)) old new name)
-  stopped (Line n why) old new refuses stops e = λ bytes is. (record { number = n; why = why }, (refuses bytes is, stops bytes is))
+  stopped (Line n why) old new refuses stops e = λ bytes is. (record { number = n; why = why }, refuses bytes is, stops bytes is)
   stopped Exists old new refuses stops e = absurd (omega (arith, e))
   stopped ReadFault old new refuses stops e = absurd (omega (arith, e))
   stopped WriteFault old new refuses stops e = absurd (omega (arith, e))
@@ -135,8 +134,11 @@ module _ (p : Packing) (name : List ℕ) (told : Option Contents) (left : Option
         let all : take (length ls) ls ≡ ls = take_all (length ls) ls (omega arith) in
         let file = file_for (settings_of p) ls in
         let whole : take (length file) file ≡ file = take_all (length file) file (omega arith) in
-        inr (length ls, subst (λ (ks : List (List ℕ)). HasFrontOf (settings_of p) ks old new name) (sym all)
-        (length file, subst (λ (b : List ℕ). Sets old new name b) (sym whole) (sets bytes is)));
+        inr (
+          length ls,
+          subst (λ (ks : List (List ℕ)). HasFrontOf (settings_of p) ks old new name) (sym all)
+              (length file, subst (λ (b : List ℕ). Sets old new name b) (sym whole) (sets bytes is)),
+        );
     kept = λ e. absurd (no_exists e);
   }
 
@@ -158,10 +160,15 @@ module _ (p : Packing) (name : List ℕ) (told : Option Contents) (left : Option
       → ForSome left (λ bytes. s ≡ counted (sum_of (settings_of p) (lines_of bytes)))
       → (n : ℕ) × Appends old new (take n (sum_line s)) → (IsErrOf {T = Unit {0}} (Err f) OutOfMemory → new ≡ old) → EndsPack p name told left (status_of_pack f) old new
   ends_cut WriteFault s old new only same front kept = record {
-    allowed = refl; done = λ e. absurd (omega (arith, e)); front = moved_sum s old new same front; quiet = λ never other. absurd (other refl);
+    allowed = refl;
+    done = λ e. absurd (omega (arith, e));
+    front = moved_sum s old new same front;
+    quiet = λ never other. absurd (other refl);
   }
   ends_cut OutOfMemory s old new only same front kept = record {
-    allowed = refl; done = λ e. absurd (omega (arith, e)); front = moved_sum s old new same front;
+    allowed = refl;
+    done = λ e. absurd (omega (arith, e));
+    front = moved_sum s old new same front;
     quiet = λ never other. subst (λ (b : Option (List ℕ)). Keeps old b) (sym (kept refl)) (Keeps-same old);
   }
   ends_cut Exists s old new only same front kept = absurd (elim only [ inl e ↦ cc | inr e ↦ cc ])

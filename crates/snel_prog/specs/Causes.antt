@@ -1,6 +1,6 @@
 -- What each outcome of a call says of what is asked and of the files: one line for each cause. What a call gives rise to over files that
 -- tell is one verdict.
-use Rattle.std.specs.Prelude.{◌≡◌, ℕ, Bool, List, length, ⊤, Option, Some, None, Result, Ok, Err}
+use Rattle.std.specs.Prelude.{◌≡◌, ℕ, Bool, List, length, ⊤, Option, Some, Result, Ok, Err}
 use Rattle.std.specs.Option.{ForSome}
 use Rattle.std.specs.Io.KnownBytes.{Appends}
 use Rattle.snel_device.specs.Causes.{Rose}

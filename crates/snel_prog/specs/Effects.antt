@@ -6,7 +6,7 @@ use Rattle.snel_device.specs.Causes.{Rose}
 use Rattle.snel_device.specs.Contents.{Contents}
 use Rattle.query_run.specs.Ends.{Reads}
 use Rattle.snel_prog.specs.Packs.{MakesFile}
-use Rattle.snel_words.specs.Words.{Ask, nothing, query, check, pack, explain}
+use Rattle.snel_words.specs.Words.{Ask, query, check, pack}
 
 -- A count of bytes that were read: a query's rises by at most its cost, that of a command about no file stands still.
 abbrev pub ReadsBytes : Ask → Option Contents → ℕ → ℕ → Type 0

@@ -3,7 +3,7 @@ use Rattle.std.specs.Prelude.{ℕ, List, [], ◌∷◌, ◌++◌, codes, slice_g
 use Rattle.std.specs.Fmt.{decimal}
 use Rattle.query_run.specs.TextFaults.{refused_view}
 use Rattle.query_run.specs.declared.query_fault.QueryFault.TheVariants.{Text, Absent, NotAFile, Damaged, ReadFault, WriteFault, OutOfMemory}
-use Rattle.snel_words.specs.Words.{Ask, nothing, query, check, pack, explain}
+use Rattle.snel_words.specs.Words.{Ask, query, check, pack}
 use Rattle.json_pack.specs.declared.sums.PackFault.{PackFault}
 use Rattle.json_pack.specs.declared.sums.PackFault.TheVariants as of_pack
 use Rattle.snel_prog.specs.Messages.{about, numbered, query_line, why_words}

@@ -11,7 +11,7 @@ use Rattle.pack_meaning.specs.Lines.{Settings}
 use Rattle.pack_meaning.specs.Packing.{Sum, refusal, sum_of}
 use Rattle.pack_meaning.specs.Packing as packing
 use Rattle.json_pack.specs.declared.sums.PackFault.{PackFault}
-use Rattle.json_pack.specs.declared.sums.PackFault.TheVariants.{Exists, Line, ReadFault, WriteFault, OutOfMemory}
+use Rattle.json_pack.specs.declared.sums.PackFault.TheVariants.{Exists, Line}
 use Rattle.json_pack.specs.Packs.{counted, file_for, HoldsLines, HasFrontOf, LeavesFront}
 use Rattle.snel_words.specs.Words.{Packing}
 use Rattle.snel_prog.specs.Exactly.{Exactly}

@@ -11,7 +11,7 @@ use Rattle.scan_meaning.specs.Answers.{StopsAt, StopsReading}
 use Rattle.scan_meaning.specs.Causes.{index_costs}
 use Rattle.query_run.specs.Queries.{Accepts}
 use Rattle.query_run.specs.Faults.{OfScan}
-use Rattle.snel_words.specs.Words.{Ask, nothing, query, check, pack, explain}
+use Rattle.snel_words.specs.Words.{Ask, query, check, pack}
 
 -- A plain query that ended so has written the lines of whole batches: at a bad block those of all batches before its own, at a failed read
 -- of at least as many as the count of bytes that were read tells.

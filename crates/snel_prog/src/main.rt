@@ -47,10 +47,7 @@ fn main(rt: HostRuntime) -> ExitCode {
     } else {
         match BufWriter::with_capacity(rt.alloc(), PIECE_BYTES, stdout) {
             Ok(gathered) => answer(&rt, &words, stdin, gathered, &mut err),
-            Err(_) => refuse(
-                Refusal::Query(QueryFault::OutOfMemory),
-                &mut err,
-            ),
+            Err(_) => refuse(Refusal::Query(QueryFault::OutOfMemory), &mut err),
         }
     };
     ExitCode::from(status)

@@ -129,7 +129,14 @@ fn each_pack_ends_so(rt: HostRuntime) -> Result<(), Fail> {
     for (words, lines, status, out, err) in &CALLS {
         let mut files = no_files(rt.alloc(), &[])?;
         assert!(rt;
-            ends_with(&rt, words, &mut files, (lines, &[]), &[], (*status, out.as_bytes(), err)),
+            ends_with(
+                &rt,
+                words,
+                &mut files,
+                (lines, &[]),
+                &[],
+                (*status, out.as_bytes(), err)
+            ),
             "{words:?}"
         );
     }
@@ -177,7 +184,16 @@ fn the_bytes_of_the_file_are_these(rt: HostRuntime) -> Result<(), Fail> {
 fn no_file_is_overwritten(rt: HostRuntime) -> Result<(), Fail> {
     let mut files = stored(rt.alloc(), &[])?;
     let exists = (12, b"".as_slice(), "snel: none: exists already\n");
-    assert!(rt; ends_with(&rt, &["pack", "none"], &mut files, (THREE, &[]), &[], exists));
+    assert!(rt;
+        ends_with(
+            &rt,
+            &["pack", "none"],
+            &mut files,
+            (THREE, &[]),
+            &[],
+            exists
+        )
+    );
     let same = stored(rt.alloc(), &[])?;
     assert!(rt; files.bytes("none") == same.bytes("none"));
     Ok(())
@@ -213,12 +229,28 @@ fn each_fault_has_its_status(rt: HostRuntime) -> Result<(), Fail> {
     for call in 1u32..3 {
         let mut files = no_files(rt.alloc(), &[call])?;
         assert!(rt;
-            ends_with(&rt, &["pack", "p"], &mut files, (THREE, &[]), &[], unwritten),
+            ends_with(
+                &rt,
+                &["pack", "p"],
+                &mut files,
+                (THREE, &[]),
+                &[],
+                unwritten
+            ),
             "{call}"
         );
     }
     let cut = (9, b"rows".as_slice(), "snel: write failed\n");
     let mut files = no_files(rt.alloc(), &[])?;
-    assert!(rt; ends_with(&rt, &["pack", "p"], &mut files, (THREE, &[]), &[(1, 4)], cut));
+    assert!(rt;
+        ends_with(
+            &rt,
+            &["pack", "p"],
+            &mut files,
+            (THREE, &[]),
+            &[(1, 4)],
+            cut
+        )
+    );
     Ok(())
 }

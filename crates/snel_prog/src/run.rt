@@ -279,9 +279,7 @@ fn put_sum<O: Out>(alloc: Global, sum: &PackSum, out: &mut O) -> Result<(), Pack
 {
     let Ok(line) = format!(in alloc;
         "rows {}, blocks {}, dropped {}\n",
-        sum.rows,
-        sum.blocks,
-        sum.dropped
+        sum.rows, sum.blocks, sum.dropped
     ) else {
         return Err(PackFault::OutOfMemory);
     };

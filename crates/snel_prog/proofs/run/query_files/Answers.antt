@@ -1,4 +1,4 @@
-use Rattle.std.proofs.Common.{◌≡◌, ap, sym, subst, Err, arith}
+use Rattle.std.proofs.Common.{ap, sym, subst, Err, arith}
 use Rattle.query_run.specs.declared.query_fault.QueryFault.{QueryFault}
 use Rattle.query_run.specs.declared.sum.QuerySum.{QuerySum}
 use Rattle.query_run.specs.Statuses as of_query
