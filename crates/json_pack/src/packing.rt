@@ -60,6 +60,7 @@ pub fn pack<F: Files, I: Input>(
 
     ensures exists { ForSome (F.told files.old) (λ told. IsErrOf result PackFault.Exists
         ↔ IsSome (told name.now)) }
+    ensures kept { IsErrOf result PackFault.Exists → F.told files.new ≡ F.told files.old }
     ensures missed { HasCause (F.misses files.old) (F.misses files.new)
         (IsErrOf result PackFault.Exists) }
     ensures read_fault { HasCause (I.faults input.old) (I.faults input.new)

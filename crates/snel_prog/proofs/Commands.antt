@@ -1,9 +1,9 @@
 -- What each command's own call says of how it came out.
-use Rattle.std.proofs.Common.{◌≡◌, ℕ, Bool, true, false, List, Option, Some, None, Result, Ok, Err, ◌≤◌, refl, ap, subst, sym, ◌∙◌, arith}
+use Rattle.std.proofs.Common.{◌≡◌, ℕ, Bool, true, false, List, Option, None, Result, Ok, Err, ◌≤◌, refl, ap, subst, ◌∙◌, arith}
 use Rattle.std.specs.Prelude.{length}
 use Rattle.snel_device.specs.Contents.{Contents}
 use Rattle.tree_meaning.specs.Tree.{Query as QueryTree}
-use Rattle.scan_meaning.specs.Batches.{is_plain, front, Counts}
+use Rattle.scan_meaning.specs.Batches.{front}
 use Rattle.query_run.specs.declared.query_fault.QueryFault.{QueryFault}
 use Rattle.query_run.specs.declared.query_fault.QueryFault.TheVariants.{Text, Absent, NotAFile, Damaged, ReadFault, WriteFault, OutOfMemory}
 use Rattle.query_run.specs.declared.sum.QuerySum.{QuerySum}
@@ -16,9 +16,9 @@ use Rattle.query_run.specs.Checking.{HasCheckCause}
 use Rattle.query_run.specs.Sums.{SumsUp}
 use Rattle.query_run.specs.Headline as query_headline
 use Rattle.snel_words.specs.declared.ask.Settings.{Settings}
-use Rattle.snel_words.specs.Words.{Ask, nothing, query, check, explain}
+use Rattle.snel_words.specs.Words.{Packing, nothing, query, check, pack, explain}
 use Rattle.snel_prog.specs.declared.outcome.Refusal.{Refusal}
-use Rattle.snel_prog.specs.declared.outcome.Refusal.TheVariants.{Words, Query}
+use Rattle.snel_prog.specs.declared.outcome.Refusal.TheVariants.{Words, Query, Pack}
 use Rattle.snel_prog.specs.declared.outcome.Done.{Done}
 use Rattle.snel_prog.specs.declared.outcome.Done.TheVariants.{All, Counted}
 use Rattle.snel_prog.specs.Outcomes.{is_counted, done_of}
@@ -74,11 +74,36 @@ check_cause A B names told WriteFault h = h
 check_cause A B names told OutOfMemory h = h
 
 -- a text is explained without looking at files
-pub explain_cause : (sql : List ℕ) (told : Option Contents) (r : Result Done Refusal) → Says (explain sql) None r → Says (explain sql) told r
-explain_cause sql told (Ok All) h = h
-explain_cause sql told (Ok (Counted r s)) h = h
-explain_cause sql told (Err Words) h = h
-explain_cause sql told (Err (Query f)) h = h
+pub explain_cause : (sql : List ℕ) (told : Option Contents) (left : Option (List ℕ)) (r : Result Done Refusal) → Says (explain sql) None None r → Says (explain sql) told left r
+explain_cause sql told left (Ok All) h = h
+explain_cause sql told left (Ok (Counted r s)) h = h
+explain_cause sql told left (Err Words) h = h
+explain_cause sql told left (Err (Query f)) h = h
+explain_cause sql told left (Err (Pack f)) h = h
+
+-- no input is looked at but by packing
+pub query_says : (settings : Settings) (sql : List ℕ) (names : List (List ℕ)) (told : Option Contents) (left : Option (List ℕ)) (r : Result Done Refusal) → Says (query settings sql names) told None r → Says (query settings sql names) told left r
+query_says settings sql names told left (Ok d) h = h
+query_says settings sql names told left (Err Words) h = h
+query_says settings sql names told left (Err (Query f)) h = h
+query_says settings sql names told left (Err (Pack f)) h = h
+
+pub check_says : (names : List (List ℕ)) (told : Option Contents) (left : Option (List ℕ)) (r : Result Done Refusal) → Says (check names) told None r → Says (check names) told left r
+check_says names told left (Ok All) h = h
+check_says names told left (Ok (Counted r s)) h = h
+check_says names told left (Err Words) h = h
+check_says names told left (Err (Query f)) h = h
+check_says names told left (Err (Pack f)) h = h
+
+-- no fault of a query says that a file is there already
+pub never_exists : (f : QueryFault) → of_query.status_of f ≡ 12 → ⊥
+never_exists (Text q) e = omega (arith, e)
+never_exists (Absent k) e = omega (arith, e)
+never_exists (NotAFile k) e = omega (arith, e)
+never_exists (Damaged file block) e = omega (arith, e)
+never_exists ReadFault e = omega (arith, e)
+never_exists WriteFault e = omega (arith, e)
+never_exists OutOfMemory e = omega (arith, e)
 
 -- the counts of a query
 pub is_counted_so : (stats : Bool) (r s : ℕ) → is_counted (done_of stats r s) ≡ stats
@@ -115,6 +140,9 @@ module _ (told : Option Contents) (status : ℕ) (old new : Option (List ℕ)) w
 
   pub of_check : (names : List (List ℕ)) → Headline (check names) told status old new
   of_check files = record { answers = λ settings sql names q asks accepts. absurd (cc) }
+
+  pub of_pack : (p : Packing) (name : List ℕ) → Headline (pack p name) told status old new
+  of_pack p name = record { answers = λ settings sql names q asks accepts. absurd (cc) }
 
   pub of_explain : (sql : List ℕ) → Headline (explain sql) told status old new
   of_explain text = record { answers = λ settings sql names q asks accepts. absurd (cc) }

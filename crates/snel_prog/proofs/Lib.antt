@@ -3,3 +3,4 @@ mod Commands
 mod Memory
 mod Asked
 mod Comes
+mod PackedSo

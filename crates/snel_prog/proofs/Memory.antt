@@ -1,14 +1,15 @@
 -- How a call may end that found no memory for its words.
-use Rattle.std.proofs.Common.{◌≡◌, ℕ, List, [], ◌∷◌, Option, Err, refl, inl, inr, arith}
+use Rattle.std.proofs.Common.{ℕ, List, [], Option, Some, None, Err, refl, sym, inl, inr, append-nil, arith}
+use Rattle.std.specs.Io.KnownBytes.{Appends}
 use Rattle.snel_device.specs.Contents.{Contents}
 use Rattle.query_run.specs.declared.query_fault.QueryFault.TheVariants.{OutOfMemory}
-use Rattle.query_run.specs.Explained.{EndsExplained}
 use Rattle.query_run.proofs.Nothing as of_query
-use Rattle.snel_words.specs.Words.{Ask, nothing, query, check, explain}
+use Rattle.snel_words.specs.Words.{Ask, nothing, query, check, pack, explain}
 use Rattle.snel_prog.specs.declared.outcome.Refusal.TheVariants.{Query}
 use Rattle.snel_prog.specs.Causes.{Says}
 use Rattle.snel_prog.specs.Ends.{Ends}
-use Rattle.snel_prog.specs.Effects.{ReadsBytes}
+use Rattle.snel_prog.specs.Effects.{ReadsBytes, ChangesFiles, WritesFiles, TakesInput}
+use Rattle.snel_prog.specs.Comes.{ComesPacked}
 use Rattle.snel_prog.specs.Headline.{Headline}
 use Rattle.snel_prog.specs.Stops.{Stops, StaysQuiet}
 use Rattle.snel_prog.proofs.Sink.{Keeps-same}
@@ -16,11 +17,21 @@ use Rattle.snel_prog.proofs.Sink.{Keeps-same}
 pub headline : (ask : Ask) (told : Option Contents) (a : Option (List ℕ)) → Headline ask told 10 a a
 headline ask told a = record { answers = λ settings sql names q asks accepts. (of_query.headline sql names told a).of_query q accepts }
 
-pub ends : (ask : Ask) (told : Option Contents) (a : Option (List ℕ)) → Ends ask told 10 a a
-ends nothing told a = record { allowed = refl; wrote = Keeps-same a }
-ends (query settings sql names) told a = of_query.ends sql names told a
-ends (check names) told a = of_query.checks names told a
-ends (explain sql) told a = record {
+adds_none : (a : Option (List ℕ)) → Appends a a []
+adds_none None = tt
+adds_none (Some xs) = sym (append-nil xs)
+
+pub ends : (ask : Ask) (told : Option Contents) (left a : Option (List ℕ)) → Ends ask told left 10 a a
+ends nothing told left a = record { allowed = refl; wrote = Keeps-same a }
+ends (query settings sql names) told left a = of_query.ends sql names told a
+ends (check names) told left a = of_query.checks names told a
+ends (pack p name) told left a = record {
+  allowed = refl;
+  done = λ e. absurd (omega (arith, e));
+  front = λ bytes is. (0, adds_none a);
+  quiet = λ done written. Keeps-same a;
+}
+ends (explain sql) told left a = record {
   only = refl;
   refused = λ r. refl;
   accepted = λ r. refl;
@@ -35,22 +46,64 @@ stops (query settings sql names) told before now old new = record {
   unread = λ q e accepts plain. absurd (omega (arith, e));
 }
 stops (check names) told before now old new = tt
+stops (pack p name) told before now old new = tt
 stops (explain sql) told before now old new = tt
 
-pub says : (ask : Ask) (told : Option Contents) → Says ask told (Err (Query OutOfMemory))
-says nothing told = tt
-says (query settings sql names) told = tt
-says (check names) told = tt
-says (explain sql) told = tt
+pub says : (ask : Ask) (told : Option Contents) (left : Option (List ℕ)) → Says ask told left (Err (Query OutOfMemory))
+says nothing told left = tt
+says (query settings sql names) told left = tt
+says (check names) told left = tt
+says (pack p name) told left = tt
+says (explain sql) told left = tt
 
 pub reads : (ask : Ask) (told : Option Contents) (n : ℕ) → ReadsBytes ask told n n
 reads nothing told n = refl
 reads (query settings sql names) told n = of_query.reads sql names told n
 reads (check names) told n = tt
+reads (pack p name) told n = refl
 reads (explain sql) told n = refl
 
 pub quiet : (ask : Ask) (a : Option (List ℕ)) → StaysQuiet ask 10 a a
 quiet nothing a = λ least most. Keeps-same a
 quiet (query settings sql names) a = λ least most. Keeps-same a
 quiet (check names) a = tt
+quiet (pack p name) a = tt
 quiet (explain sql) a = λ least most. Keeps-same a
+
+pub changes : (ask : Ask) (left : Option (List ℕ)) (told : Option Contents) → ChangesFiles ask left 10 told told
+changes nothing left told = refl
+changes (query settings sql names) left told = refl
+changes (check names) left told = refl
+changes (pack p name) left told = record {
+  whole = λ e. absurd (omega (arith, e));
+  holds = λ e. absurd (omega (arith, e));
+  before = λ e. absurd (omega (arith, e));
+  front = λ bytes is. inl refl;
+  kept = λ e. absurd (omega (arith, e));
+}
+changes (explain sql) left told = refl
+
+pub writes : (ask : Ask) (n : ℕ) → WritesFiles ask n n
+writes nothing n = refl
+writes (query settings sql names) n = refl
+writes (check names) n = refl
+writes (pack p name) n = omega arith
+writes (explain sql) n = refl
+
+pub takes : (ask : Ask) (left : Option (List ℕ)) → TakesInput ask 10 left left
+takes nothing left = refl
+takes (query settings sql names) left = refl
+takes (check names) left = refl
+takes (pack p name) left = λ e. absurd (omega (arith, e))
+takes (explain sql) left = refl
+
+pub packs : (ask : Ask) (told : Option Contents) (left : Option (List ℕ)) (a b c d e f : ℕ) → ComesPacked ask told left 10 a b c d e f
+packs nothing told left a b c d e f = tt
+packs (query settings sql names) told left a b c d e f = tt
+packs (check names) told left a b c d e f = tt
+packs (pack p name) told left a b c d e f = record {
+  exists = λ files is. record { only = λ x. absurd (omega (arith, x)); always = λ h. inr refl };
+  refused = λ files bytes is has none no_write no_read. record { only = λ x. absurd (omega (arith, x)); always = λ h. inr refl };
+  done = λ files bytes is has none accepted no_write no_read no_put. inr refl;
+}
+packs (explain sql) told left a b c d e f = tt

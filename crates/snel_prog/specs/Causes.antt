@@ -1,6 +1,6 @@
 -- What each outcome of a call says of what is asked and of the files: one line for each cause. What a call gives rise to over files that
 -- tell is one verdict.
-use Rattle.std.specs.Prelude.{◌≡◌, ℕ, Bool, List, length, ⊤, Option, Some, None, Result, Ok, Err}
+use Rattle.std.specs.Prelude.{◌≡◌, ℕ, Bool, List, length, ⊤, Option, Some, Result, Ok, Err}
 use Rattle.std.specs.Option.{ForSome}
 use Rattle.std.specs.Io.KnownBytes.{Appends}
 use Rattle.snel_device.specs.Causes.{Rose}
@@ -14,11 +14,12 @@ use Rattle.query_run.specs.Queries.{Accepts, IsAccepted}
 use Rattle.query_run.specs.Faults as of_query
 use Rattle.query_run.specs.Checking as of_check
 use Rattle.query_run.specs.Explained as of_explain
-use Rattle.snel_words.specs.Words.{Ask, nothing, query, check, explain}
+use Rattle.snel_words.specs.Words.{Ask, nothing, query, check, pack, explain}
 use Rattle.snel_prog.specs.Outcomes.{status_after, is_counted, done_of}
+use Rattle.snel_prog.specs.Packs.{SaysOfPack, IsAllAccepted}
 use Rattle.snel_prog.specs.Lines.{names_of, line_of}
 use Rattle.snel_prog.specs.declared.outcome.Refusal.{Refusal}
-use Rattle.snel_prog.specs.declared.outcome.Refusal.TheVariants.{Words, Query}
+use Rattle.snel_prog.specs.declared.outcome.Refusal.TheVariants.{Words, Query, Pack}
 use Rattle.snel_prog.specs.declared.outcome.Done.{Done}
 use Rattle.snel_prog.specs.declared.outcome.Done.TheVariants.{All}
 
@@ -29,21 +30,24 @@ pub record TellsCounts (stats : Bool) (sql : List ℕ) (names : List (List ℕ))
   pub right : (q : QueryTree) → Accepts sql q → ForSome told (λ files. (bs : List Block) (n count : ℕ)
       → Finds q names (Some files) (scan bs n) → Counts q bs count → done ≡ done_of stats (length (front count bs)) n)
 
--- what an outcome says of what is asked
-abbrev pub Says : Ask → Option Contents → Result Done Refusal → Type 0
-Says nothing told (Err Words) = ⊤
-Says nothing told (Err (Query OutOfMemory)) = ⊤
-Says (query settings sql names) told (Err (Query f)) = of_query.HasItsCause {A = Done} sql names told (Err f)
-Says (query settings sql names) told (Ok done) = of_query.HasItsCause {A = Done} sql names told (Ok done) × TellsCounts settings.stats sql names told done
-Says (check names) told (Err (Query f)) = of_check.HasCheckCause {A = Done} names told (Err f)
-Says (check names) told (Ok All) = of_check.HasCheckCause {A = Done} names told (Ok All)
-Says (explain sql) told (Err (Query f)) = of_explain.SaysOfExplained sql f
-Says (explain sql) told (Ok All) = IsAccepted sql
-Says ask told outcome = ⊥
+-- what an outcome says of what is asked, of the files and of the input's bytes
+abbrev pub Says : Ask → Option Contents → Option (List ℕ) → Result Done Refusal → Type 0
+Says nothing told left (Err Words) = ⊤
+Says nothing told left (Err (Query OutOfMemory)) = ⊤
+Says (query settings sql names) told left (Err (Query f)) = of_query.HasItsCause {A = Done} sql names told (Err f)
+Says (query settings sql names) told left (Ok done) = of_query.HasItsCause {A = Done} sql names told (Ok done) × TellsCounts settings.stats sql names told done
+Says (check names) told left (Err (Query f)) = of_check.HasCheckCause {A = Done} names told (Err f)
+Says (check names) told left (Ok All) = of_check.HasCheckCause {A = Done} names told (Ok All)
+Says (explain sql) told left (Err (Query f)) = of_explain.SaysOfExplained sql f
+Says (explain sql) told left (Ok All) = IsAccepted sql
+Says (pack p name) told left (Err (Query OutOfMemory)) = ⊤
+Says (pack p name) told left (Err (Pack f)) = SaysOfPack p name told left f
+Says (pack p name) told left (Ok All) = IsAllAccepted p left
+Says ask told left outcome = ⊥
 
 -- A call came out so and ended with its status, and `err` took its line unless its count of faults rose.
-pub record CameOut (ask : Ask) (told : Option Contents) (status before now : ℕ) (old new : Option (List ℕ)) : Type 0 where
+pub record CameOut (ask : Ask) (told : Option Contents) (left : Option (List ℕ)) (status before now : ℕ) (old new : Option (List ℕ)) : Type 0 where
   pub outcome : Result Done Refusal
   pub is : status ≡ status_after outcome
-  pub says : Says ask told outcome
+  pub says : Says ask told left outcome
   pub line : ¬ Rose before now → Appends old new (line_of (names_of ask) outcome)

@@ -1,5 +1,5 @@
 -- When statuses come, and that a call is done against which nothing stands.
-use Rattle.std.specs.Prelude.{◌≡◌, ◌⊎◌, ℕ, List, Option, Some, None}
+use Rattle.std.specs.Prelude.{◌≡◌, ◌⊎◌, ℕ, List, ⊤, Option, Some, None}
 use Rattle.snel_device.specs.Causes.{Rose}
 use Rattle.snel_device.specs.Contents.{Contents}
 use Rattle.tree_meaning.specs.Tree.{Query}
@@ -9,12 +9,9 @@ use Rattle.scan_meaning.specs.Verdicts.{scan, Finds}
 use Rattle.scan_meaning.specs.Checks.{sound, ChecksAs}
 use Rattle.query_run.specs.Queries.{Accepts, IsAccepted, IsRefused}
 use Rattle.snel_words.specs.declared.ask.Settings.{Settings}
-use Rattle.snel_words.specs.Words.{Ask, nothing, query, check, explain}
-
--- This status comes exactly where this is its cause, and yields to want of memory.
-pub record Exactly (status result : ℕ) (cause : Type 0) : Type 0 where
-  pub only : result ≡ status → cause
-  pub always : cause → (result ≡ status) ⊎ (result ≡ 10)
+use Rattle.snel_words.specs.Words.{Ask, nothing, query, check, pack, explain}
+use Rattle.snel_prog.specs.Exactly.{Exactly}
+use Rattle.snel_prog.specs.Packs.{ComesOfPack}
 
 -- the text of a query that is asked or explained
 abbrev pub text_of : Ask → Option (List ℕ)
@@ -37,3 +34,8 @@ pub record Comes (ask : Ask) (told : Option Contents) (status reads_before reads
       → ask ≡ check names → told ≡ Some files → ChecksAs names files sound
       → ¬ Rose reads_before reads_now → ¬ Rose writes_before writes_now → (status ≡ 0) ⊎ (status ≡ 10)
   pub listed : (sql : List ℕ) → ask ≡ explain sql → IsAccepted sql → ¬ Rose writes_before writes_now → (status ≡ 0) ⊎ (status ≡ 10)
+
+-- when the statuses of a pack command come
+abbrev pub ComesPacked : Ask → Option Contents → Option (List ℕ) → ℕ → ℕ → ℕ → ℕ → ℕ → ℕ → ℕ → Type 0
+ComesPacked (pack p name) told left status a b c d e f = ComesOfPack p name told left status a b c d e f
+ComesPacked ask told left status a b c d e f = ⊤

@@ -6,4 +6,7 @@ pub mod Ends
 pub mod Headline
 pub mod Effects
 pub mod Stops
+pub mod NamesView
+pub mod Exactly
+pub mod Packs
 pub mod Comes

@@ -1,12 +1,14 @@
 -- The line that a call writes to standard error, by how it came out.
-use Rattle.std.specs.Prelude.{ℕ, List, [], ◌++◌, codes, slice_get, unwrap_or, Result, Ok, Err}
+use Rattle.std.specs.Prelude.{ℕ, List, [], ◌∷◌, ◌++◌, codes, slice_get, unwrap_or, Result, Ok, Err}
 use Rattle.std.specs.Fmt.{decimal}
 use Rattle.query_run.specs.TextFaults.{refused_view}
 use Rattle.query_run.specs.declared.query_fault.QueryFault.TheVariants.{Text, Absent, NotAFile, Damaged, ReadFault, WriteFault, OutOfMemory}
-use Rattle.snel_words.specs.Words.{Ask, nothing, query, check, explain}
-use Rattle.snel_prog.specs.Messages.{about, numbered, query_line}
+use Rattle.snel_words.specs.Words.{Ask, query, check, pack}
+use Rattle.json_pack.specs.declared.sums.PackFault.{PackFault}
+use Rattle.json_pack.specs.declared.sums.PackFault.TheVariants as of_pack
+use Rattle.snel_prog.specs.Messages.{about, numbered, query_line, why_words}
 use Rattle.snel_prog.specs.declared.outcome.Refusal.{Refusal}
-use Rattle.snel_prog.specs.declared.outcome.Refusal.TheVariants.{Words, Query}
+use Rattle.snel_prog.specs.declared.outcome.Refusal.TheVariants.{Words, Query, Pack}
 use Rattle.snel_prog.specs.declared.outcome.Done.{Done}
 use Rattle.snel_prog.specs.declared.outcome.Done.TheVariants.{All, Counted}
 
@@ -14,11 +16,20 @@ use Rattle.snel_prog.specs.declared.outcome.Done.TheVariants.{All, Counted}
 abbrev pub names_of : Ask → List (List ℕ)
 names_of (query settings sql names) = names
 names_of (check names) = names
+names_of (pack p name) = name ∷ []
 names_of ask = []
 
 -- the name of the file with this number, from 0 on
 abbrev pub name_at : List (List ℕ) → ℕ → List ℕ
 name_at names k = unwrap_or (slice_get names k) []
+
+-- the line of each fault of packing
+abbrev pub pack_line : List (List ℕ) → PackFault → List ℕ
+pack_line names of_pack.Exists = about (name_at names 0) (codes ": exists already\n")
+pack_line names (of_pack.Line n why) = numbered (codes "snel: line ") n ++ (codes ": " ++ (why_words why ++ codes "\n"))
+pack_line names of_pack.ReadFault = codes "snel: input: read failed\n"
+pack_line names of_pack.WriteFault = codes "snel: write failed\n"
+pack_line names of_pack.OutOfMemory = codes "snel: out of memory\n"
 
 -- the line of each refusal
 abbrev pub refusal_line : List (List ℕ) → Refusal → List ℕ
@@ -30,6 +41,7 @@ refusal_line names (Query (Damaged file block)) = about (name_at names file) (co
 refusal_line names (Query ReadFault) = codes "snel: files: read failed\n"
 refusal_line names (Query WriteFault) = codes "snel: write failed\n"
 refusal_line names (Query OutOfMemory) = codes "snel: out of memory\n"
+refusal_line names (Pack f) = pack_line names f
 
 -- nothing, or the counts of blocks
 abbrev pub done_line : Done → List ℕ

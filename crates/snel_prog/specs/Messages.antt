@@ -1,4 +1,4 @@
--- Why the text of a query isn't answered, in words.
+-- Why the text of a query isn't answered, and why a line isn't packed, in words.
 use Rattle.std.specs.Prelude.{ℕ, List, [], ◌++◌, codes}
 use Rattle.std.specs.Fmt.{decimal}
 use Rattle.query_meaning.specs.Faults as text
@@ -8,6 +8,8 @@ use Rattle.check_meaning.specs.Place as place
 use Rattle.check_meaning.specs.Place.{Place}
 use Rattle.check_meaning.specs.Fault as fault
 use Rattle.check_meaning.specs.Fault.{Fault}
+use Rattle.pack_meaning.specs.declared.LineWhy.{LineWhy}
+use Rattle.pack_meaning.specs.declared.LineWhy.TheVariants as why
 use Rattle.query_run.specs.Queries.{Refused, unread, unchecked, not_built}
 
 -- words about a file
@@ -59,3 +61,13 @@ refused_words not_built = codes "not built yet"
 -- the line of status 3
 abbrev pub query_line : Refused → List ℕ
 query_line f = codes "snel: query: " ++ (refused_words f ++ codes "\n")
+
+-- why a line isn't packed
+abbrev pub why_words : LineWhy → List ℕ
+why_words why.TooMuch = codes "too much input"
+why_words why.TooLong = codes "too long"
+why_words why.NotJson = codes "not json"
+why_words why.NotObject = codes "not an object"
+why_words why.Number = codes "number"
+why_words why.TooLarge = codes "too large"
+why_words why.Full = codes "file full"

@@ -11,7 +11,7 @@ use Rattle.scan_meaning.specs.Answers.{StopsAt, StopsReading}
 use Rattle.scan_meaning.specs.Causes.{index_costs}
 use Rattle.query_run.specs.Queries.{Accepts}
 use Rattle.query_run.specs.Faults.{OfScan}
-use Rattle.snel_words.specs.Words.{Ask, nothing, query, check, explain}
+use Rattle.snel_words.specs.Words.{Ask, query, check, pack}
 
 -- A plain query that ended so has written the lines of whole batches: at a bad block those of all batches before its own, at a failed read
 -- of at least as many as the count of bytes that were read tells.
@@ -24,7 +24,9 @@ abbrev pub Stops : Ask → Option Contents → ℕ → ℕ → ℕ → Option (L
 Stops (query settings sql names) told status before now old new = StopsPlain sql names told status before now old new
 Stops ask told status before now old new = ⊤
 
--- Refused words and texts, and a query's files that can't be opened, leave the output as it was. A check writes the lines of the files before.
+-- Refused words and texts, and a query's files that can't be opened, leave the output as it was. A check writes the lines of the files before. Packing ends
+-- with none of these.
 abbrev pub StaysQuiet : Ask → ℕ → Option (List ℕ) → Option (List ℕ) → Type 0
 StaysQuiet (check names) status old new = ⊤
+StaysQuiet (pack p name) status old new = ⊤
 StaysQuiet ask status old new = 2 ≤ status → status ≤ 5 → Keeps old new

@@ -8,6 +8,8 @@ mod file_tests;
 mod grid_tests;
 mod outcome;
 #[cfg(test)]
+mod pack_tests;
+#[cfg(test)]
 mod query_tests;
 mod report;
 mod run;
@@ -20,10 +22,10 @@ mod tests;
 
 use outcome::Refusal;
 use query_run::QueryFault;
+use report::{Names, report};
 use run::snel;
 use snel_device::{HostFiles, HostInput, HostOut, OpenGate};
 use snel_values::Words;
-use std::alloc::Global;
 use std::io::{BufWriter, ErrorKind, IsTerminal, Stderr, Stdin, Write};
 use std::process::ExitCode;
 use std::thread::Threads;
@@ -36,7 +38,7 @@ fn main(rt: HostRuntime) -> ExitCode {
     let mut err = HostOut::new(rt.stderr());
     let words = match words_of(&rt) {
         Ok(words) => words,
-        Err(refusal) => return ExitCode::from(refuse(rt.alloc(), refusal, &mut err)),
+        Err(refusal) => return ExitCode::from(refuse(refusal, &mut err)),
     };
     let stdin = HostInput::new(rt.stdin());
     let stdout = rt.stdout();
@@ -45,11 +47,7 @@ fn main(rt: HostRuntime) -> ExitCode {
     } else {
         match BufWriter::with_capacity(rt.alloc(), PIECE_BYTES, stdout) {
             Ok(gathered) => answer(&rt, &words, stdin, gathered, &mut err),
-            Err(_) => refuse(
-                rt.alloc(),
-                Refusal::Query(QueryFault::OutOfMemory),
-                &mut err,
-            ),
+            Err(_) => refuse(Refusal::Query(QueryFault::OutOfMemory), &mut err),
         }
     };
     ExitCode::from(status)
@@ -77,14 +75,14 @@ fn answer<R: Threads + Sync + rt::Files + AllocGlobal, W: Write + Drop>(
         &OpenGate,
     );
     match out.end() {
-        Err(_) if status == 0 => refuse(rt.alloc(), Refusal::Query(QueryFault::WriteFault), err),
+        Err(_) if status == 0 => refuse(Refusal::Query(QueryFault::WriteFault), err),
         _ => status,
     }
 }
 
 // Writes the line of a refusal that is about no file, and answers its status.
-fn refuse(alloc: Global, refusal: Refusal, err: &mut HostOut<Stderr>) -> u8 {
-    report::report(Err(refusal), &Words::new(alloc), err);
+fn refuse(refusal: Refusal, err: &mut HostOut<Stderr>) -> u8 {
+    report(Err(refusal), &Names::None, err);
     refusal.status()
 }
 

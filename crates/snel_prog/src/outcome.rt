@@ -1,3 +1,4 @@
+use json_pack::PackFault;
 use query_run::QueryFault;
 
 /// Why a call ended without the whole answer.
@@ -7,6 +8,8 @@ pub enum Refusal {
     Words,
     /// This stands against the query, the files or the listing.
     Query(QueryFault),
+    /// This stands against packing.
+    Pack(PackFault),
 }
 
 /// What a call did that was refused nothing.
@@ -43,6 +46,11 @@ impl Refusal {
             Refusal::Query(QueryFault::ReadFault) => 8,
             Refusal::Query(QueryFault::WriteFault) => 9,
             Refusal::Query(QueryFault::OutOfMemory) => 10,
+            Refusal::Pack(PackFault::Exists) => 12,
+            Refusal::Pack(PackFault::Line { .. }) => 11,
+            Refusal::Pack(PackFault::ReadFault) => 8,
+            Refusal::Pack(PackFault::WriteFault) => 9,
+            Refusal::Pack(PackFault::OutOfMemory) => 10,
         }
     }
 }

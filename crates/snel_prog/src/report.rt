@@ -1,63 +1,88 @@
 //! The line of a call on standard error.
-ghost use Rattle.std.specs.Prelude.{◌≡◌, ◌≤◌, ◌++◌, [], codes, OnOk, OnErr};
+ghost use Rattle.std.specs.Prelude.{◌≡◌, ◌≤◌, ◌++◌, codes, OnOk, OnErr};
 ghost use Rattle.std.specs.Fmt.{decimal};
 ghost use Rattle.std.specs.Io.KnownBytes.{Appends};
 ghost use Rattle.query_check.specs.Faults.{limit_view, place_view};
 ghost use Rattle.query_run.specs.TextFaults.{refused_view};
 ghost use Rattle.snel_device.specs.Causes.{Rose};
 ghost use Rattle.snel_words.specs.Asked.{ask_view};
-ghost use Rattle.snel_prog.specs.Messages.{about, numbered, limit_words, place_words, refused_words, query_line};
+ghost use Rattle.snel_prog.specs.Messages.{about, numbered, limit_words, place_words, refused_words, query_line, why_words};
 ghost use Rattle.snel_prog.specs.Outcomes.{status_after};
-ghost use Rattle.snel_prog.specs.Lines.{names_of, name_at, line_of, done_line, refusal_line};
+ghost use Rattle.snel_prog.specs.Lines.{names_of, name_at, line_of, done_line, refusal_line, pack_line};
+ghost use Rattle.snel_prog.specs.NamesView.{names_view};
 
 use crate::outcome::{Done, Outcome, Refusal};
 use itoa::Buffer;
+use json_pack::{LineWhy, PackFault};
 use query_check::{Limit, Place};
 use query_run::{QueryFault, TextFault};
 use snel_device::{Failed, Out};
 use snel_values::Words;
 use snel_words::Ask;
-use std::alloc::Global;
+
+/// The names of the files that a command is about.
+#[derive(Clone, Copy)]
+pub enum Names<'w> {
+    /// It is about no file.
+    None,
+    /// The one name.
+    One(&'w str),
+    /// Names as they were given.
+    All(&'w Words),
+}
+
+impl<'w> Names<'w> {
+    // The name of the file with this number, from 0 on.
+    fn get(&self, at: u32) -> &str
+        ensures { result.now ≡ name_at (names_view self.now) at }
+    {
+        match self {
+            Names::None => "",
+            Names::One(name) => if at == 0 { name } else { "" },
+            Names::All(names) => names.get(at as usize).unwrap_or(""),
+        }
+    }
+}
 
 /// Writes the line of a call that came out so, and answers its status.
-pub fn end<E: Out>(alloc: Global, outcome: Outcome, ask: &Ask<'_>, err: &mut E) -> u8
+pub fn end<E: Out>(outcome: Outcome, ask: &Ask<'_>, err: &mut E) -> u8
     ensures status { result ≡ status_after outcome }
     ensures line { ¬ Rose (E.faults err.old) (E.faults err.new)
         → Appends (E.holds err.old) (E.holds err.new) (line_of (names_of (ask_view ask.now)) outcome) }
 {
-    let none = Words::new(alloc);
-    report(outcome, names_in(ask, &none), err);
+    report(outcome, &names_in(ask), err);
     match outcome {
         Ok(_) => 0,
         Err(refusal) => refusal.status(),
     }
 }
 
-// The names of the files that a command is about, or none.
-fn names_in<'w>(ask: &'w Ask<'w>, none: &'w Words) -> &'w Words
-    requires { none.now ≡ [] }
-    ensures { result.now ≡ names_of (ask_view ask.now) }
+// The names of the files that a command is about.
+fn names_in<'w>(ask: &'w Ask<'w>) -> Names<'w>
+    ensures { names_view result ≡ names_of (ask_view ask.now) }
 {
     match ask {
         Ask::Query {
             settings: _,
             sql: _,
             names,
-        } => names,
-        Ask::Check { names } => names,
-        Ask::Nothing | Ask::Explain { sql: _ } => none,
+        } => Names::All(names),
+        Ask::Check { names } => Names::All(names),
+        Ask::Pack { packing: _, name } => Names::One(name),
+        Ask::Nothing | Ask::Explain { sql: _ } => Names::None,
     }
 }
 
 /// Writes the line of a call over files of these names that came out so. Where a put fails, the rest of the line isn't written.
-pub fn report<E: Out>(outcome: Outcome, names: &Words, err: &mut E)
+pub fn report<E: Out>(outcome: Outcome, names: &Names<'_>, err: &mut E)
     ensures { ¬ Rose (E.faults err.old) (E.faults err.new)
-        → Appends (E.holds err.old) (E.holds err.new) (line_of names.now outcome) }
+        → Appends (E.holds err.old) (E.holds err.new) (line_of (names_view names.now) outcome) }
 {
     let _ = match outcome {
         Ok(done) => puts_done(err, done),
         Err(Refusal::Words) => puts(err, "snel: words not understood\n"),
         Err(Refusal::Query(fault)) => puts_refused(err, fault, names),
+        Err(Refusal::Pack(fault)) => puts_unpacked(err, fault, names),
     };
 }
 
@@ -179,21 +204,21 @@ fn puts_query<E: Out>(err: &mut E, fault: TextFault) -> Result<(), Failed>
 }
 
 // Words about the file with this number.
-fn puts_about<E: Out>(err: &mut E, names: &Words, file: u32, what: &str) -> Result<(), Failed>
+fn puts_about<E: Out>(err: &mut E, names: &Names<'_>, file: u32, what: &str) -> Result<(), Failed>
     ensures line { OnOk result (Appends (E.holds err.old) (E.holds err.new)
-        (about (name_at names.now file) what.now)) }
+        (about (name_at (names_view names.now) file) what.now)) }
     ensures failed { OnErr result (Rose (E.faults err.old) (E.faults err.new)) }
     ensures later { E.faults err.old ≤ E.faults err.new }
 {
     puts(err, "snel: ")?;
-    puts(err, names.get(file as usize).unwrap_or(""))?;
+    puts(err, names.get(file))?;
     puts(err, what)
 }
 
 // The line of a bad block.
-fn puts_damaged<E: Out>(err: &mut E, names: &Words, file: u32, block: u32) -> Result<(), Failed>
+fn puts_damaged<E: Out>(err: &mut E, names: &Names<'_>, file: u32, block: u32) -> Result<(), Failed>
     ensures line { OnOk result (Appends (E.holds err.old) (E.holds err.new)
-        (refusal_line names.now (Refusal.Query (QueryFault.Damaged file block)))) }
+        (refusal_line (names_view names.now) (Refusal.Query (QueryFault.Damaged file block)))) }
     ensures failed { OnErr result (Rose (E.faults err.old) (E.faults err.new)) }
 {
     puts_about(err, names, file, ": block ")?;
@@ -201,9 +226,9 @@ fn puts_damaged<E: Out>(err: &mut E, names: &Words, file: u32, block: u32) -> Re
 }
 
 // The line of what stands against a query or files.
-fn puts_refused<E: Out>(err: &mut E, fault: QueryFault, names: &Words) -> Result<(), Failed>
+fn puts_refused<E: Out>(err: &mut E, fault: QueryFault, names: &Names<'_>) -> Result<(), Failed>
     ensures line { OnOk result (Appends (E.holds err.old) (E.holds err.new)
-        (refusal_line names.now (Refusal.Query fault))) }
+        (refusal_line (names_view names.now) (Refusal.Query fault))) }
     ensures failed { OnErr result (Rose (E.faults err.old) (E.faults err.new)) }
 {
     match fault {
@@ -214,6 +239,68 @@ fn puts_refused<E: Out>(err: &mut E, fault: QueryFault, names: &Words) -> Result
         QueryFault::ReadFault => puts(err, "snel: files: read failed\n"),
         QueryFault::WriteFault => puts(err, "snel: write failed\n"),
         QueryFault::OutOfMemory => puts(err, "snel: out of memory\n"),
+    }
+}
+
+// The line of what stands against packing.
+fn puts_unpacked<E: Out>(err: &mut E, fault: PackFault, names: &Names<'_>) -> Result<(), Failed>
+    ensures line { OnOk result (Appends (E.holds err.old) (E.holds err.new)
+        (refusal_line (names_view names.now) (Refusal.Pack fault))) }
+    ensures failed { OnErr result (Rose (E.faults err.old) (E.faults err.new)) }
+{
+    match fault {
+        PackFault::Exists => puts_about(err, names, 0, ": exists already\n"),
+        PackFault::Line { number, why } => puts_line(err, number, why),
+        PackFault::ReadFault => puts(err, "snel: input: read failed\n"),
+        PackFault::WriteFault => puts(err, "snel: write failed\n"),
+        PackFault::OutOfMemory => puts(err, "snel: out of memory\n"),
+    }
+}
+
+// The number of a line, and why it is refused.
+fn puts_line<E: Out>(err: &mut E, number: u64, why: LineWhy) -> Result<(), Failed>
+    ensures line { OnOk result (Appends (E.holds err.old) (E.holds err.new)
+        (numbered (codes "snel: line ") number ++ (codes ": " ++ (why_words why ++ codes "\n")))) }
+    ensures failed { OnErr result (Rose (E.faults err.old) (E.faults err.new)) }
+{
+    puts_line_number(err, number)?;
+    puts_why(err, why)
+}
+
+fn puts_line_number<E: Out>(err: &mut E, number: u64) -> Result<(), Failed>
+    ensures line { OnOk result (Appends (E.holds err.old) (E.holds err.new)
+        (numbered (codes "snel: line ") number)) }
+    ensures failed { OnErr result (Rose (E.faults err.old) (E.faults err.new)) }
+    ensures later { E.faults err.old ≤ E.faults err.new }
+{
+    let mut digits = Buffer::new();
+    puts(err, "snel: line ")?;
+    puts(err, digits.format(number))
+}
+
+fn puts_why<E: Out>(err: &mut E, why: LineWhy) -> Result<(), Failed>
+    ensures line { OnOk result (Appends (E.holds err.old) (E.holds err.new)
+        (codes ": " ++ (why_words why ++ codes "\n"))) }
+    ensures failed { OnErr result (Rose (E.faults err.old) (E.faults err.new)) }
+    ensures later { E.faults err.old ≤ E.faults err.new }
+{
+    puts(err, ": ")?;
+    puts(err, why_word(why))?;
+    puts(err, "\n")
+}
+
+// Why a line is refused.
+fn why_word(why: LineWhy) -> &'static str
+    ensures { result.now ≡ why_words why }
+{
+    match why {
+        LineWhy::TooMuch => "too much input",
+        LineWhy::TooLong => "too long",
+        LineWhy::NotJson => "not json",
+        LineWhy::NotObject => "not an object",
+        LineWhy::Number => "number",
+        LineWhy::TooLarge => "too large",
+        LineWhy::Full => "file full",
     }
 }
 

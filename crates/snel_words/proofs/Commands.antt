@@ -1,9 +1,9 @@
 -- What a command's words ask.
-use Rattle.std.proofs.Common.{◌≡◌, ℕ, Bool, true, false, List, [], ◌∷◌, Option, Some, None, refl, sym, ap, ◌∙◌}
-use Rattle.std.specs.Prelude.{drop, length, codes, ◌&&◌, if◌then◌else◌}
+use Rattle.std.proofs.Common.{◌≡◌, ℕ, Bool, true, false, List, [], ◌∷◌, Some, None, refl, sym, ap, ◌∙◌}
+use Rattle.std.specs.Prelude.{codes, ◌&&◌, if◌then◌else◌}
 use Rattle.std.specs.Str.{bytes_eq}
 use Rattle.snel_words.specs.declared.ask.Settings.{Settings}
-use Rattle.snel_words.specs.Words.{Ask, nothing, query, check, explain, is_operand, are_files, workers, groups, setting, flag, query_of, check_of, explain_of, after_groups, after_workers, asked_query, asked}
+use Rattle.snel_words.specs.Words.{Ask, nothing, query, check, is_operand, are_files, workers, groups, setting, flag, query_of, check_of, explain_of, after_groups, after_workers, asked_query, asked_pack, asked}
 
 -- names that were found are all of the words
 found : (b : Bool) (ws names : List (List ℕ)) → Some names ≡ (if b then Some ws else None) → (b ≡ true) × (names ≡ ws)
@@ -66,31 +66,42 @@ all_settings ws rest more last n m b e f g =
     ap (λ (p : Bool × List (List ℕ)). query_of (record { workers = n; groups = m; stats = p.0 }) p.1) g ∙ ap (after_groups n) f ∙ ap after_workers e
 
 -- the command that its name calls
-abbrev named : Bool → Bool → Bool → List (List ℕ) → Ask
-named q c x rest = if q then asked_query rest else (if c then check_of rest else (if x then explain_of rest else nothing))
+abbrev named : Bool → Bool → Bool → Bool → List (List ℕ) → Ask
+named q c x p rest = if q then asked_query rest else (if c then check_of rest else (if x then explain_of rest else (if p then asked_pack rest else nothing)))
 
-named_is : (words rest : List (List ℕ)) (command : List ℕ) → words ≡ command ∷ rest → asked words ≡ named (bytes_eq command (codes "query")) (bytes_eq command (codes "check")) (bytes_eq command (codes "explain")) rest
-unfolding asked
-named_is words rest command e = ap asked e
+module _ (words rest : List (List ℕ)) (command : List ℕ) (first : words ≡ command ∷ rest) where
+  abbrev is : List ℕ → Bool
+  is name = bytes_eq command name
 
-pub of_query : (words rest : List (List ℕ)) (command : List ℕ) → words ≡ command ∷ rest → bytes_eq command (codes "query") ≡ true → asked_query rest ≡ asked words
-of_query words rest command e q =
-    sym (named_is words rest command e ∙ ap (λ (b : Bool). named b (bytes_eq command (codes "check")) (bytes_eq command (codes "explain")) rest) q)
+  named_is : asked words ≡ named (is (codes "query")) (is (codes "check")) (is (codes "explain")) (is (codes "pack")) rest
+  unfolding asked
+  named_is = ap asked first
 
-pub of_check : (words rest : List (List ℕ)) (command : List ℕ) → words ≡ command ∷ rest → bytes_eq command (codes "query") ≡ false → bytes_eq command (codes "check") ≡ true → check_of rest ≡ asked words
-of_check words rest command e q c =
-    sym (named_is words rest command e ∙ ap (λ (b : Bool). named b (bytes_eq command (codes "check")) (bytes_eq command (codes "explain")) rest) q
-    ∙ ap (λ (b : Bool). named false b (bytes_eq command (codes "explain")) rest) c)
+  pub of_query : is (codes "query") ≡ true → asked_query rest ≡ asked words
+  of_query q = sym (named_is ∙ ap (λ (b : Bool). named b (is (codes "check")) (is (codes "explain")) (is (codes "pack")) rest) q)
 
-pub of_explain : (words rest : List (List ℕ)) (command : List ℕ) → words ≡ command ∷ rest → bytes_eq command (codes "query") ≡ false → bytes_eq command (codes "check") ≡ false → bytes_eq command (codes "explain") ≡ true → explain_of rest ≡ asked words
-of_explain words rest command e q c x =
-    sym (named_is words rest command e ∙ ap (λ (b : Bool). named b (bytes_eq command (codes "check")) (bytes_eq command (codes "explain")) rest) q
-    ∙ ap (λ (b : Bool). named false b (bytes_eq command (codes "explain")) rest) c ∙ ap (λ (b : Bool). named false false b rest) x)
+  pub of_check : is (codes "query") ≡ false → is (codes "check") ≡ true → check_of rest ≡ asked words
+  of_check q c =
+      sym (named_is ∙ ap (λ (b : Bool). named b (is (codes "check")) (is (codes "explain")) (is (codes "pack")) rest) q
+      ∙ ap (λ (b : Bool). named false b (is (codes "explain")) (is (codes "pack")) rest) c)
 
-pub of_other : (words rest : List (List ℕ)) (command : List ℕ) → words ≡ command ∷ rest → bytes_eq command (codes "query") ≡ false → bytes_eq command (codes "check") ≡ false → bytes_eq command (codes "explain") ≡ false → nothing ≡ asked words
-of_other words rest command e q c x =
-    sym (named_is words rest command e ∙ ap (λ (b : Bool). named b (bytes_eq command (codes "check")) (bytes_eq command (codes "explain")) rest) q
-    ∙ ap (λ (b : Bool). named false b (bytes_eq command (codes "explain")) rest) c ∙ ap (λ (b : Bool). named false false b rest) x)
+  behind_check : is (codes "query") ≡ false → is (codes "check") ≡ false → asked words ≡ named false false (is (codes "explain")) (is (codes "pack")) rest
+  behind_check q c =
+      named_is ∙ ap (λ (b : Bool). named b (is (codes "check")) (is (codes "explain")) (is (codes "pack")) rest) q
+      ∙ ap (λ (b : Bool). named false b (is (codes "explain")) (is (codes "pack")) rest) c
+
+  pub of_explain : is (codes "query") ≡ false → is (codes "check") ≡ false → is (codes "explain") ≡ true → explain_of rest ≡ asked words
+  of_explain q c x = sym (behind_check q c ∙ ap (λ (b : Bool). named false false b (is (codes "pack")) rest) x)
+
+  pub of_pack : is (codes "query") ≡ false → is (codes "check") ≡ false → is (codes "explain") ≡ false → is (codes "pack") ≡ true → asked_pack rest ≡ asked words
+  of_pack q c x p =
+      sym (behind_check q c ∙ ap (λ (b : Bool). named false false b (is (codes "pack")) rest) x
+      ∙ ap (λ (b : Bool). named false false false b rest) p)
+
+  pub of_other : is (codes "query") ≡ false → is (codes "check") ≡ false → is (codes "explain") ≡ false → is (codes "pack") ≡ false → nothing ≡ asked words
+  of_other q c x p =
+      sym (behind_check q c ∙ ap (λ (b : Bool). named false false b (is (codes "pack")) rest) x
+      ∙ ap (λ (b : Bool). named false false false b rest) p)
 
 -- no word at all
 pub no_words : (words : List (List ℕ)) → words ≡ [] → nothing ≡ asked words

@@ -3,3 +3,4 @@ pub mod Numbers
 pub mod Options
 pub mod Commands
 pub mod NamedFiles
+pub mod PackWords

@@ -1,12 +1,15 @@
 -- What the words ask names one to sixty-four files, where it is about files.
-use Rattle.std.proofs.Common.{◌≡◌, ℕ, Bool, true, false, List, [], ◌∷◌, Option, Some, None, refl, arith}
-use Rattle.std.specs.Prelude.{length, codes, nat_le, ◌&&◌, if◌then◌else◌}
+use Rattle.std.proofs.Common.{◌≡◌, ℕ, ◌≤◌, Bool, true, false, List, [], ◌∷◌, Option, Some, None, refl, arith}
+use Rattle.std.specs.Prelude.{length, codes, nat_le, ◌&&◌, IfSome, if◌then◌else◌}
 use Rattle.std.specs.List.{list_all}
 use Rattle.std.specs.Str.{bytes_eq}
+use Rattle.std.specs.Str.Parse.{digits_value}
+use Rattle.std.specs.Fmt.{decimal}
+use Rattle.std.specs.Option.{option_map}
 use Rattle.std.proofs.lemmas.Bool.{leb-true}
 use Rattle.snel_words.specs.declared.ask.Settings.{Settings}
-use Rattle.snel_words.specs.Words.{Ask, nothing, query, check, explain, is_operand, are_files, groups, workers, setting, flag, query_of, check_of, explain_of, after_groups, after_workers, asked_query, asked}
-use Rattle.snel_words.specs.NamedFiles.{AreFew, HasNames}
+use Rattle.snel_words.specs.Words.{Ask, Packing, nothing, query, check, pack, explain, is_operand, is_field, number_in, are_files, groups, workers, block_weights, setting, flag, time_field, query_of, check_of, pack_of, explain_of, after_groups, after_workers, after_block, after_time, asked_query, asked_pack, asked}
+use Rattle.snel_words.specs.NamedFiles.{AreFew, IsWithinLimits, HasNames}
 use Rattle.snel_words.proofs.Numbers.{first_of, second_of}
 
 few : (names : List (List ℕ)) → are_files names ≡ true → AreFew names
@@ -14,6 +17,10 @@ few names e = record {
   some = leb-true 1 (length names) (first_of (nat_le 1 (length names)) (nat_le (length names) 64) (list_all is_operand names) e);
   few = leb-true (length names) 64 (second_of (nat_le 1 (length names)) (nat_le (length names) 64) (list_all is_operand names) e);
 }
+
+left_of : (a b : Bool) → (a && b) ≡ true → a ≡ true
+left_of true b e = refl
+left_of false b e = e
 
 right_of : (a b : Bool) → (a && b) ≡ true → b ≡ true
 right_of true b e = e
@@ -62,11 +69,83 @@ chosen : (a b : Ask) (c : Bool) → HasNames a → HasNames b → HasNames (if c
 chosen a b true h k = h
 chosen a b false h k = k
 
--- what the words ask names so many
+-- limits of packing
+field_limits : (field : List ℕ) → is_field field ≡ true → (1 ≤ length field) × (length field ≤ 255)
+field_limits field e = (
+  leb-true 1 (length field) (left_of (nat_le 1 (length field)) (nat_le (length field) 255) e),
+  leb-true (length field) 255 (right_of (nat_le 1 (length field)) (nat_le (length field) 255) e),
+)
+
+abbrev IsNamed : Option (List ℕ) → Type 0
+IsNamed time = IfSome time (λ field. (1 ≤ length field) × (length field ≤ 255))
+
+abbrev TimeIsNamed : Option (Option (List ℕ) × List (List ℕ)) → Type 0
+TimeIsNamed found = IfSome found (λ p. IsNamed p.0)
+
+chosen_time : (word value : List ℕ) (rest : List (List ℕ)) (b f : Bool) → (f ≡ true → (1 ≤ length value) × (length value ≤ 255)) → TimeIsNamed (if b then (if f then Some (Some value, rest) else None) else Some (None, word ∷ value ∷ rest))
+chosen_time word value rest true true h = h refl
+chosen_time word value rest true false h = tt
+chosen_time word value rest false f h = tt
+
+time_is_named : (ws : List (List ℕ)) → TimeIsNamed (time_field ws)
+unfolding time_field
+time_is_named [] = tt
+time_is_named (word ∷ []) = tt
+time_is_named (word ∷ value ∷ rest) = chosen_time word value rest (bytes_eq word (codes "--time")) (is_field value) (field_limits value)
+
+abbrev IsLow : Option (ℕ × List (List ℕ)) → Type 0
+IsLow found = IfSome found (λ p. p.0 ≤ 1000000)
+
+number_low : (n : ℕ) (rest : List (List ℕ)) (a b c : Bool) → (c ≡ true → n ≤ 1000000) → IsLow (option_map (λ n. (n, rest)) (if a && b && c then Some n else None))
+number_low n rest true true true h = h refl
+number_low n rest true true false h = tt
+number_low n rest true false c h = tt
+number_low n rest false b c h = tt
+
+number_is_low : (word : List ℕ) (rest : List (List ℕ)) → IsLow (option_map (λ n. (n, rest)) (number_in block_weights word))
+unfolding number_in
+number_is_low word rest =
+    number_low (digits_value 10 word) rest (bytes_eq word (decimal (digits_value 10 word))) (nat_le 1024 (digits_value 10 word)) (nat_le (digits_value 10 word) 1000000) (leb-true (digits_value 10 word) 1000000)
+
+chosen_block : (word value : List ℕ) (rest : List (List ℕ)) (b : Bool) → IsLow (if b then option_map (λ n. (n, rest)) (number_in block_weights value) else Some (1000000, word ∷ value ∷ rest))
+chosen_block word value rest true = number_is_low value rest
+chosen_block word value rest false = omega arith
+
+block_is_low : (ws : List (List ℕ)) → IsLow (setting (codes "--block") block_weights ws)
+unfolding setting
+block_is_low [] = omega arith
+block_is_low (word ∷ []) = omega arith
+block_is_low (word ∷ value ∷ rest) = chosen_block word value rest (bytes_eq word (codes "--block"))
+
+chosen_pack : (packing : Packing) (name : List ℕ) (b : Bool) → IsWithinLimits packing → HasNames (if b then pack packing name else nothing)
+chosen_pack packing name true h = h
+chosen_pack packing name false h = tt
+
+of_name : (packing : Packing) (ws : List (List ℕ)) → IsWithinLimits packing → HasNames (pack_of packing ws)
+unfolding pack_of
+of_name packing [] h = tt
+of_name packing (name ∷ []) h = chosen_pack packing name (is_operand name) h
+of_name packing (name ∷ w ∷ ws) h = tt
+
+of_block : (time : Option (List ℕ)) (found : Option (ℕ × List (List ℕ))) → IsNamed time → IsLow found → HasNames (after_block time found)
+of_block time None named low = tt
+of_block time (Some found) named low =
+    of_name (record { time = time; block = found.0; drops = (flag (codes "--drop-fractions") found.1).0 }) (flag (codes "--drop-fractions") found.1).1 (record { block = low; time = named })
+
+of_time : (found : Option (Option (List ℕ) × List (List ℕ))) → TimeIsNamed found → HasNames (after_time found)
+of_time None named = tt
+of_time (Some found) named = of_block found.0 (setting (codes "--block") block_weights found.1) named (block_is_low found.1)
+
+of_pack : (ws : List (List ℕ)) → HasNames (asked_pack ws)
+unfolding asked_pack
+of_pack ws = of_time (time_field ws) (time_is_named ws)
+
+-- what the words ask names so many, and packs within its limits
 pub asked_has_names : (words : List (List ℕ)) → HasNames (asked words)
 unfolding asked
 asked_has_names [] = tt
 asked_has_names (command ∷ words) =
     chosen (asked_query words) _ (bytes_eq command (codes "query")) (of_settings words)
     (chosen (check_of words) _ (bytes_eq command (codes "check")) (of_check words)
-    (chosen (explain_of words) nothing (bytes_eq command (codes "explain")) (of_explain words) tt))
+    (chosen (explain_of words) _ (bytes_eq command (codes "explain")) (of_explain words)
+    (chosen (asked_pack words) nothing (bytes_eq command (codes "pack")) (of_pack words) tt)))

@@ -1,10 +1,10 @@
 -- What stands at the front of a list of words.
-use Rattle.std.proofs.Common.{◌≡◌, ℕ, Bool, true, false, List, [], ◌∷◌, Option, Some, None, refl, sym, ap, ◌∙◌}
-use Rattle.std.specs.Prelude.{drop, length, if◌then◌else◌}
+use Rattle.std.proofs.Common.{◌≡◌, ℕ, Bool, true, false, List, [], ◌∷◌, Option, Some, refl, sym, ap, ◌∙◌}
+use Rattle.std.specs.Prelude.{length, if◌then◌else◌}
 use Rattle.std.specs.Option.{option_map}
 use Rattle.std.specs.Str.{bytes_eq}
 use Rattle.snel_words.specs.declared.fronts.Limits.{Limits}
-use Rattle.snel_words.specs.Words.{Ask, nothing, explain, is_operand, number_in, setting, flag, explain_of}
+use Rattle.snel_words.specs.Words.{nothing, explain, is_operand, number_in, setting, flag, explain_of}
 
 -- a list's word that isn't there
 pub flag_none : (name : List ℕ) (ws : List (List ℕ)) → ws ≡ [] → (false, ws) ≡ flag name ws

@@ -8,11 +8,18 @@ use Rattle.std.specs.Str.Parse.{digits_value}
 use Rattle.snel_words.specs.declared.ask.Settings.{Settings}
 use Rattle.snel_words.specs.declared.fronts.Limits.{Limits}
 
+-- the indexed field, the most weight of a block's rows, and whether fractions are dropped
+pub record Packing : Type 0 where
+  pub time : Option (List ℕ)
+  pub block : ℕ
+  pub drops : Bool
+
 -- what a list of words asks
 pub data Ask : Type 0 where
   nothing : Ask
   query : Settings → List ℕ → List (List ℕ) → Ask
   check : List (List ℕ) → Ask
+  pack : Packing → List ℕ → Ask
   explain : List ℕ → Ask
 
 -- a query's text or a file's name isn't empty and doesn't begin with `--`
@@ -78,10 +85,44 @@ unfoldable pub explain_of : List (List ℕ) → Ask
 explain_of (sql ∷ []) = if is_operand sql then explain sql else nothing
 explain_of words = nothing
 
+-- a field's name has 1 to 255 bytes
+abbrev pub is_field : List ℕ → Bool
+is_field word = nat_le 1 (length word) && nat_le (length word) 255
+
+-- The field behind `--time`, where that stands first, else none; and the words after it.
+-- Nothing where what stands behind `--time` is no field's name.
+unfoldable pub time_field : List (List ℕ) → Option (Option (List ℕ) × List (List ℕ))
+time_field (word ∷ value ∷ rest) =
+    if bytes_eq word (codes "--time") then (if is_field value then Some (Some value, rest) else None) else Some (None, word ∷ value ∷ rest)
+time_field words = Some (None, words)
+
+abbrev pub block_weights : Limits
+block_weights = record { least = 1024; most = 1000000; usual = 1000000 }
+
+-- `OUT`
+unfoldable pub pack_of : Packing → List (List ℕ) → Ask
+pack_of packing (name ∷ []) = if is_operand name then pack packing name else nothing
+pack_of packing words = nothing
+
+-- the settings that end with `--drop-fractions`, or without it, and what follows
+abbrev pub after_block : Option (List ℕ) → Option (ℕ × List (List ℕ)) → Ask
+after_block time None = nothing
+after_block time (Some found) =
+    pack_of (record { time = time; block = found.0; drops = (flag (codes "--drop-fractions") found.1).0 }) (flag (codes "--drop-fractions") found.1).1
+
+abbrev pub after_time : Option (Option (List ℕ) × List (List ℕ)) → Ask
+after_time None = nothing
+after_time (Some found) = after_block found.0 (setting (codes "--block") block_weights found.1)
+
+-- `[--time FIELD] [--block B] [--drop-fractions] OUT`
+unfoldable pub asked_pack : List (List ℕ) → Ask
+asked_pack words = after_time (time_field words)
+
 -- a command's name and its words
 unfoldable pub asked : List (List ℕ) → Ask
 asked (command ∷ words) =
     if bytes_eq command (codes "query") then asked_query words else
     if bytes_eq command (codes "check") then check_of words else
-    if bytes_eq command (codes "explain") then explain_of words else nothing
+    if bytes_eq command (codes "explain") then explain_of words else
+    if bytes_eq command (codes "pack") then asked_pack words else nothing
 asked [] = nothing

@@ -11,6 +11,17 @@ pub struct Settings {
     pub stats: bool,
 }
 
+/// How lines are packed.
+#[derive(Clone, Copy, Debug)]
+pub struct Packing<'w> {
+    /// The field that is indexed, a name of 1 to 255 bytes.
+    pub time: Option<&'w str>,
+    /// The most that the rows of a block weigh together, 1,024 to 1,000,000.
+    pub block: u32,
+    /// Whether fractions are dropped.
+    pub drop_fractions: bool,
+}
+
 /// What a list of words asks.
 #[derive(Drop)]
 pub enum Ask<'w> {
@@ -29,6 +40,13 @@ pub enum Ask<'w> {
     Check {
         /// The files' names, 1 to 64 of them.
         names: Words,
+    },
+    /// Packing lines into a new file.
+    Pack {
+        /// How they are packed.
+        packing: Packing<'w>,
+        /// The new file's name.
+        name: &'w str,
     },
     /// The listing of a query.
     Explain {

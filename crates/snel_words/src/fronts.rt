@@ -1,7 +1,7 @@
 // What stands at a place of a list of words.
 ghost use Rattle.std.specs.Prelude.{◌≡◌, ◌≤◌, ◌+◌, drop, IfSome};
 ghost use Rattle.std.specs.Option.{option_map};
-ghost use Rattle.snel_words.specs.Words.{is_operand, number_in, setting, flag};
+ghost use Rattle.snel_words.specs.Words.{is_operand, is_field, number_in, setting, flag, time_field};
 
 use itoa::Buffer;
 use snel_values::Words;
@@ -16,6 +16,9 @@ pub struct Limits {
     /// What it is where none is given.
     pub usual: u32,
 }
+
+// The most bytes of a field's name.
+const MOST_FIELD_BYTES: usize = 255;
 
 // Whether a word can be a query's text or a file's name.
 pub fn is_operand(word: &str) -> bool
@@ -64,6 +67,36 @@ pub fn setting(words: &Words, at: usize, name: &str, limits: Limits) -> Option<(
     match number_in(limits, value) {
         Some(number) => Some((number, at + 2)),
         None => None,
+    }
+}
+
+// Whether a word can be a field's name.
+fn is_field(word: &str) -> bool
+    ensures { result ≡ is_field word.now }
+{
+    1 <= word.len() && word.len() <= MOST_FIELD_BYTES
+}
+
+// The field's name behind `--time`, where that stands at this place, and the place after it.
+pub fn time_field<'w>(words: &'w Words, at: usize) -> Option<(Option<&'w str>, usize)>
+    requires { at ≤ 8 }
+    ensures value { option_map (λ p. (option_map (λ t. t.now) p.0, drop p.1 words.now)) result
+        ≡ time_field (drop at words.now) }
+    ensures near { IfSome result (λ p. p.1 ≤ at + 2) }
+{
+    let Some(word) = words.get(at) else {
+        return Some((None, at));
+    };
+    let Some(value) = words.get(at + 1) else {
+        return Some((None, at));
+    };
+    if word != "--time" {
+        return Some((None, at));
+    }
+    if is_field(value) {
+        Some((Some(value), at + 2))
+    } else {
+        None
     }
 }
 

@@ -11,11 +11,11 @@ mod fronts;
 mod names;
 mod reading;
 
-pub use ask::{Ask, Settings};
+pub use ask::{Ask, Packing, Settings};
 pub use fronts::Limits;
 pub use reading::read_words;
 
-/// A command over files names one to sixty-four of them.
+/// A command over files names one to sixty-four of them, and packing stays within its limits.
 pub fn files_are_few()
     ensures { (words : List (List ℕ)) → HasNames (asked words) }
 {}

@@ -1,10 +1,10 @@
 // From a list of words to what it asks.
 ghost use Rattle.std.specs.Prelude.{◌≡◌, ◌≤◌, drop, IfOk};
-ghost use Rattle.snel_words.specs.Words.{asked, asked_query, query_of, check_of, explain_of};
-ghost use Rattle.snel_words.specs.Asked.{ask_view};
+ghost use Rattle.snel_words.specs.Words.{asked, asked_query, query_of, check_of, asked_pack, pack_of, explain_of};
+ghost use Rattle.snel_words.specs.Asked.{ask_view, packing_view};
 
-use crate::ask::{Ask, Settings};
-use crate::fronts::{Limits, flag, is_operand, setting};
+use crate::ask::{Ask, Packing, Settings};
+use crate::fronts::{Limits, flag, is_operand, setting, time_field};
 use crate::names::names_from;
 use snel_values::{OutOfMemory, Words};
 use std::alloc::Global;
@@ -19,6 +19,12 @@ const GROUPS: Limits = Limits {
     least: 1,
     most: 16_777_216,
     usual: 1_048_576,
+};
+
+const BLOCK_WEIGHTS: Limits = Limits {
+    least: 1_024,
+    most: 1_000_000,
+    usual: 1_000_000,
 };
 
 /// What the words after the program's name ask.
@@ -38,6 +44,9 @@ pub fn read_words<'w>(alloc: Global, words: &'w Words) -> Result<Ask<'w>, OutOfM
     }
     if command == "explain" {
         return Ok(read_explain(words));
+    }
+    if command == "pack" {
+        return Ok(read_pack(words));
     }
     Ok(Ask::Nothing)
 }
@@ -96,6 +105,43 @@ fn read_check<'w>(alloc: Global, words: &'w Words) -> Result<Ask<'w>, OutOfMemor
         Ok(Some(names)) => Ok(Ask::Check { names }),
         Ok(None) => Ok(Ask::Nothing),
         Err(e) => Err(e),
+    }
+}
+
+// What the words behind `pack` ask.
+fn read_pack<'w>(words: &'w Words) -> Ask<'w>
+    ensures { ask_view result ≡ asked_pack (drop 1 words.now) }
+{
+    let Some((time, at)) = time_field(words, 1) else {
+        return Ask::Nothing;
+    };
+    let Some((block, at)) = setting(words, at, "--block", BLOCK_WEIGHTS) else {
+        return Ask::Nothing;
+    };
+    let (drop_fractions, at) = flag(words, at, "--drop-fractions");
+    let packing = Packing {
+        time,
+        block,
+        drop_fractions,
+    };
+    read_name(words, at, packing)
+}
+
+// Packing into the file of the name at a place, which is the last word.
+fn read_name<'w>(words: &'w Words, at: usize, packing: Packing<'w>) -> Ask<'w>
+    requires { at ≤ 7 }
+    ensures { ask_view result ≡ pack_of (packing_view packing.entry) (drop at words.now) }
+{
+    let Some(name) = words.get(at) else {
+        return Ask::Nothing;
+    };
+    if at + 1 < words.len() {
+        return Ask::Nothing;
+    }
+    if is_operand(name) {
+        Ask::Pack { packing, name }
+    } else {
+        Ask::Nothing
     }
 }
 

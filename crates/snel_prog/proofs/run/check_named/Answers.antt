@@ -1,7 +1,7 @@
 use Rattle.std.proofs.Common.{ap, Err, arith}
 use Rattle.query_run.specs.declared.query_fault.QueryFault.{QueryFault}
 use Rattle.snel_prog.specs.declared.outcome.Done.{Done}
-use Rattle.snel_prog.proofs.Commands.{is_absent, is_read_fault, is_write_fault, check_cause}
+use Rattle.snel_prog.proofs.Commands.{never_exists, is_absent, is_read_fault, is_write_fault, check_cause}
 use Rattle.snel_prog.proofs.run.check_named.Goals as goal
 
 pub returns-in-Ok-clause-absent : goal.returns-in-Ok-clause-absent
@@ -24,3 +24,9 @@ returns-in-Err-clause-read_fault g c e = c.in-Err.ensures.read_fault (ap (λ (f 
 
 pub returns-in-Err-clause-write_fault : goal.returns-in-Err-clause-write_fault
 returns-in-Err-clause-write_fault g c e = c.in-Err.ensures.write_fault (ap (λ (f : QueryFault). Err f) (is_write_fault c.in-Err.fault e))
+
+pub returns-in-Ok-clause-no_exists : goal.returns-in-Ok-clause-no_exists
+returns-in-Ok-clause-no_exists g c e = absurd (omega (arith, e))
+
+pub returns-in-Err-clause-no_exists : goal.returns-in-Err-clause-no_exists
+returns-in-Err-clause-no_exists g c e = never_exists c.in-Err.fault e

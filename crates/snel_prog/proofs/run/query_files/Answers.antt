@@ -1,10 +1,10 @@
-use Rattle.std.proofs.Common.{◌≡◌, ap, sym, subst, Err, arith}
+use Rattle.std.proofs.Common.{ap, sym, subst, Err, arith}
 use Rattle.query_run.specs.declared.query_fault.QueryFault.{QueryFault}
 use Rattle.query_run.specs.declared.sum.QuerySum.{QuerySum}
 use Rattle.query_run.specs.Statuses as of_query
 use Rattle.snel_prog.specs.declared.outcome.Done.{Done}
 use Rattle.snel_prog.specs.Causes.{TellsCounts}
-use Rattle.snel_prog.proofs.Commands.{is_absent, is_read_fault, is_write_fault, of_files, stops_not, stops, tells_counts, query_cause, quiet}
+use Rattle.snel_prog.proofs.Commands.{never_exists, is_absent, is_read_fault, is_write_fault, of_files, stops_not, stops, tells_counts, query_cause, quiet}
 use Rattle.snel_prog.proofs.run.query_files.Goals as goal
 
 pub returns-in-Ok-clause-headline : goal.returns-in-Ok-clause-headline
@@ -53,3 +53,9 @@ returns-in-Ok-clause-quiet g c least most = absurd (omega (arith, least))
 
 pub returns-in-Err-clause-quiet : goal.returns-in-Err-clause-quiet
 returns-in-Err-clause-quiet g c least most = quiet QuerySum c.in-Err.fault _ _ c.in-Err.ensures.quiet least most
+
+pub returns-in-Ok-clause-no_exists : goal.returns-in-Ok-clause-no_exists
+returns-in-Ok-clause-no_exists g c e = absurd (omega (arith, e))
+
+pub returns-in-Err-clause-no_exists : goal.returns-in-Err-clause-no_exists
+returns-in-Err-clause-no_exists g c e = never_exists c.in-Err.fault e

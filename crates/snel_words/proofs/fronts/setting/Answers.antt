@@ -1,4 +1,4 @@
-use Rattle.std.proofs.Common.{◌≡◌, ◌+◌, Bool, true, false, not, sym, ap, ◌∙◌, drop, Some, None}
+use Rattle.std.proofs.Common.{◌+◌, sym, ap, ◌∙◌, drop, Some, None}
 use Rattle.std.specs.Prelude.{option_copied}
 use Rattle.std.specs.Str.{bytes_eq}
 use Rattle.snel_words.proofs.Places.{drop_one, drop_two, drop_past}

@@ -1,4 +1,4 @@
-use Rattle.std.proofs.Common.{drop, sym, ap, ◌∙◌}
+use Rattle.std.proofs.Common.{drop, sym, ◌∙◌}
 use Rattle.snel_words.proofs.Commands.{checked, unchecked}
 use Rattle.snel_words.proofs.reading.read_check.Goals as goal
 

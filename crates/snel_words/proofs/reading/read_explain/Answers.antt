@@ -1,5 +1,5 @@
-use Rattle.std.proofs.Common.{◌≡◌, ◌∷◌, sym, ap, ◌∙◌, drop, arith}
-use Rattle.std.specs.Prelude.{option_copied, length}
+use Rattle.std.proofs.Common.{◌∷◌, sym, ap, ◌∙◌, drop, arith}
+use Rattle.std.specs.Prelude.{option_copied}
 use Rattle.snel_words.proofs.Places.{drop_at, drop_past, drop_end, other_count}
 use Rattle.snel_words.proofs.Options.{explained, unexplained, none_explained, not_explained}
 use Rattle.snel_words.proofs.reading.read_explain.Goals as goal

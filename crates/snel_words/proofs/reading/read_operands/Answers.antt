@@ -1,8 +1,6 @@
 use Rattle.std.proofs.Common.{◌+◌, drop, sym, ap, ◌∙◌}
 use Rattle.std.specs.Prelude.{option_copied}
-use Rattle.snel_words.specs.Words.{is_operand}
 use Rattle.snel_words.proofs.Places.{drop_at, drop_past}
-use Rattle.snel_words.proofs.Numbers.{not_true, not_false}
 use Rattle.snel_words.proofs.Commands.{no_text, bad_text, text_and_names, bad_names}
 use Rattle.snel_words.proofs.reading.read_operands.Goals as goal
 
