@@ -3,7 +3,7 @@ use crate::test_files::{OF_A, OF_A_AND_B, file_of};
 use std::test::Fail;
 
 // Queries over the rows {"a":1,"b":"x"}, {"a":null} and {"b":7}, and their lines.
-static ANSWERS: [(&str, &str); 13] = [
+static ANSWERS: [(&str, &str); 17] = [
     ("SELECT a FROM logs", "{\"a\":1}\n{\"a\":null}\n{}\n"),
     ("SELECT * FROM logs WHERE a IS MISSING", "{\"b\":7}\n"),
     (
@@ -35,6 +35,13 @@ static ANSWERS: [(&str, &str); 13] = [
         "SELECT -7 / 2 AS q, -7 % 2 AS r, 1 / 0 AS z FROM logs WHERE a = 1",
         "{\"q\":-3,\"r\":-1}\n",
     ),
+    (
+        "SELECT * FROM logs LIMIT 2",
+        "{\"a\":1,\"b\":\"x\"}\n{\"a\":null}\n",
+    ),
+    ("SELECT a FROM logs LIMIT 1 OFFSET 1", "{\"a\":null}\n"),
+    ("SELECT a FROM logs LIMIT 0", ""),
+    ("SELECT a FROM logs OFFSET 2", "{}\n"),
 ];
 
 #[test]

@@ -132,7 +132,7 @@ fn each_status_comes(rt: HostRuntime) {
 }
 
 // Texts that are refused, and the line that says why.
-static REFUSED: [(&str, &str); 12] = [
+static REFUSED: [(&str, &str); 11] = [
     ("SELECT 1.5 FROM logs", "snel: query: bad token at byte 8\n"),
     ("SELECT a--b FROM t", "snel: query: bad token at byte 8\n"),
     (
@@ -165,7 +165,6 @@ static REFUSED: [(&str, &str); 12] = [
         "snel: query: not built yet\n",
     ),
     ("SELECT * FROM t ORDER BY a", "snel: query: not built yet\n"),
-    ("SELECT * FROM t LIMIT 1", "snel: query: not built yet\n"),
 ];
 
 #[test]
