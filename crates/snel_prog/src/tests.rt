@@ -209,26 +209,25 @@ fn no_fault_of_the_error_output_changes_a_status(rt: HostRuntime) {
     }
 }
 
-// Each line is put by one call. The call that fails, what it keeps of its line, and how much of the answer is there then.
-static CUT_ANSWERS: [(u32, u32, usize); 7] = [
-    (1, 0, 0),
-    (1, 1, 1),
-    (1, 99, 16),
-    (2, 0, 16),
-    (2, 1, 17),
-    (3, 0, 27),
-    (3, 99, 35),
-];
-
+// Each line is put by one call: the number of the put that fails, how much it keeps, and how much of the lines is then there.
 #[test]
 fn each_put_may_fail(rt: HostRuntime) {
     let words = ["query", ALL, "rows"];
-    for (call, keeps, length) in &CUT_ANSWERS {
-        let written = LINES.as_bytes().get(..*length).unwrap_or(b"");
+    for (put, keeps, length) in [
+        (1u32, 0u32, 0usize),
+        (1, 1, 1),
+        (1, 16, 16),
+        (1, 99, 16),
+        (2, 0, 16),
+        (2, 1, 17),
+        (3, 0, 27),
+        (3, 99, 35),
+    ] {
+        let written = LINES.as_bytes().get(..length).unwrap_or(b"");
         let wanted = (9, written, "snel: write failed\n");
         assert!(rt;
-            ends(&rt, &words, (&[], &[(*call, *keeps)], &[]), wanted),
-            "{call} {keeps}"
+            ends(&rt, &words, (&[], &[(put, keeps)], &[]), wanted),
+            "{put} {keeps}"
         );
     }
     assert!(rt;
