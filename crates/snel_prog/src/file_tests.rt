@@ -29,18 +29,18 @@ fn block_at(second: u8) -> [u8; 24] {
     block
 }
 
-// The microseconds at which 2024 begins.
+// The microseconds at which 2024 begins, and its second second.
 const START: i64 = 1_704_067_200_000_000;
 
-const SECOND: i64 = 1_000_000;
+const NEXT: i64 = 1_704_067_201_000_000;
 
-// Two blocks of one second each, of which the first may have a wrong first byte, and the greatest time of the second be less.
-fn two_blocks(alloc: Global, first: u8, less: i64) -> Result<Vec<u8>, AllocError> {
+// Two blocks of one row each, of the first two seconds. The first byte of the first and the greatest time of the second may be wrong.
+fn two_blocks(alloc: Global, first: u8, greatest: i64) -> Result<Vec<u8>, AllocError> {
     let mut blocks = Blocks::new(alloc, b"ts")?;
     let mut block = block_at(0);
     block[0] = first;
     blocks.push(&block, 1, START, START)?;
-    blocks.push(&block_at(1), 1, START + SECOND, START + SECOND - less)?;
+    blocks.push(&block_at(1), 1, NEXT, greatest)?;
     blocks.finish()
 }
 
@@ -57,16 +57,33 @@ fn many_blocks(alloc: Global, count: u8, bad: [u8; 2]) -> Result<Vec<u8>, AllocE
     blocks.finish()
 }
 
-// The files `rows`, `none` and so on, and `T` of two seconds, `U` whose first block is damaged, `low` whose second block breaks its range,
-// `six` with blocks 3 and 5 damaged and `long` with block 64 of 65.
+// The files `rows`, `none` and so on, and those of many blocks.
 fn many_files(alloc: Global, failing: &[u32]) -> Result<MemFiles, AllocError> {
     let mut files = stored(alloc, failing)?;
-    files.insert("T", &two_blocks(alloc, 0xe0, 0)?)?;
-    files.insert("U", &two_blocks(alloc, 0, 0)?)?;
-    files.insert("low", &two_blocks(alloc, 0xe0, 1)?)?;
-    files.insert("six", &many_blocks(alloc, 6, [3, 5])?)?;
-    files.insert("long", &many_blocks(alloc, 65, [64, 64])?)?;
+    add_files(alloc, &mut files)?;
     Ok(files)
+}
+
+// `T` of two seconds, `U` whose first block is damaged, `low` whose second block breaks its range, `six` with blocks 3 and 5
+// damaged, `whole` of 64 blocks and `long` with block 64 of 65 damaged.
+fn add_files(alloc: Global, files: &mut MemFiles) -> Result<(), AllocError> {
+    add_made(files, "T", two_blocks(alloc, 0xe0, NEXT))?;
+    add_made(files, "U", two_blocks(alloc, 0, NEXT))?;
+    add_made(files, "low", two_blocks(alloc, 0xe0, NEXT - 1))?;
+    add_made(files, "six", many_blocks(alloc, 6, [3, 5]))?;
+    add_made(files, "whole", many_blocks(alloc, 64, [64, 64]))?;
+    add_made(files, "long", many_blocks(alloc, 65, [64, 64]))
+}
+
+fn add_made(
+    files: &mut MemFiles,
+    name: &str,
+    made: Result<Vec<u8>, AllocError>,
+) -> Result<(), AllocError> {
+    match made {
+        Ok(bytes) => files.insert(name, &bytes),
+        Err(fault) => Err(fault),
+    }
 }
 
 // Whether a call of these words over these files ends so.
@@ -262,48 +279,56 @@ fn each_check_ends_so(rt: HostRuntime) {
     }
 }
 
-// The lines of each batch are put before the next is read.
-#[test]
-fn a_bad_block_ends_after_the_batches_before_it(rt: HostRuntime) -> Result<(), Fail> {
-    let mut files = many_files(rt.alloc(), &[])?;
-    files.insert("whole", &many_blocks(rt.alloc(), 64, [64, 64])?)?;
-    let mut lines = Vec::new(rt.alloc());
+// The lines of blocks of the first 64 seconds.
+fn lines_of_seconds(alloc: Global) -> Result<Vec<u8>, Fail> {
+    let mut lines = Vec::new(alloc);
     for second in 0u8..64 {
-        let line = format!(in rt.alloc();
-            "{{\"ts\":\"2024-01-01T00:0{}:{:02}Z\"}}\n",
-            second / 60,
-            second % 60
-        )?;
-        lines.extend_from_slice(line.as_bytes())?;
+        add_line_at(alloc, &mut lines, second)?;
     }
-    let bad = (6, lines.as_slice(), "snel: long: block 64 is damaged\n");
-    assert!(rt; ends_over(&rt, &["query", ALL, "long"], &mut files, STEADY, bad));
-    let whole = (0, lines.as_slice(), "");
-    assert!(rt; ends_over(&rt, &["query", ALL, "whole"], &mut files, STEADY, whole));
+    Ok(lines)
+}
+
+fn add_line_at(alloc: Global, lines: &mut Vec<u8>, second: u8) -> Result<(), Fail> {
+    let line = format!(in alloc;
+        "{{\"ts\":\"2024-01-01T00:0{}:{:02}Z\"}}\n",
+        second / 60,
+        second % 60
+    )?;
+    lines.extend_from_slice(line.as_bytes())?;
     Ok(())
 }
 
+// The lines of each batch are put before the next is read.
+#[test]
+fn a_bad_block_ends_after_the_batches_before_it(rt: HostRuntime) -> Result<(), Fail> {
+    let lines = lines_of_seconds(rt.alloc())?;
+    let bad = (6, lines.as_slice(), "snel: long: block 64 is damaged\n");
+    assert!(rt; ends_on_many(&rt, &["query", ALL, "long"], STEADY, bad));
+    let whole = (0, lines.as_slice(), "");
+    assert!(rt; ends_on_many(&rt, &["query", ALL, "whole"], STEADY, whole));
+    Ok(())
+}
+
+// Words, the put of a line that fails, and the lines before it.
+static CUT: [(&[&str], u32, &str); 2] = [
+    (&["query", ALL, "rows"], 2, "{\"a\":1,\"b\":\"x\"}\n"),
+    (
+        &["query", ALL, "T", "rows"],
+        4,
+        "{\"ts\":\"2024-01-01T00:00:00Z\"}\n{\"ts\":\"2024-01-01T00:00:01Z\"}\n{\"a\":1,\"b\":\"x\"}\n",
+    ),
+];
+
 // Each line is one put.
 #[test]
-fn the_second_put_may_fail(rt: HostRuntime) {
-    let wanted = (
-        9,
-        b"{\"a\":1,\"b\":\"x\"}\n".as_slice(),
-        "snel: write failed\n",
-    );
-    assert!(rt;
-        ends_on_many(
-            &rt,
-            &["query", ALL, "T", "rows"],
-            (&[], &[(4, 0)], &[]),
-            (
-                9,
-                "{\"ts\":\"2024-01-01T00:00:00Z\"}\n{\"ts\":\"2024-01-01T00:00:01Z\"}\n{\"a\":1,\"b\":\"x\"}\n".as_bytes(),
-                "snel: write failed\n"
-            )
-        )
-    );
-    assert!(rt; ends_on_many(&rt, &["query", ALL, "rows"], (&[], &[(2, 0)], &[]), wanted));
+fn the_put_of_a_line_may_fail(rt: HostRuntime) {
+    for (words, put, lines) in &CUT {
+        let wanted = (9, lines.as_bytes(), "snel: write failed\n");
+        assert!(rt;
+            ends_on_many(&rt, words, (&[], &[(*put, 0)], &[]), wanted),
+            "{put}"
+        );
+    }
 }
 
 // Every call of the files may fail: three sizes, three tails, three indexes and three blocks.

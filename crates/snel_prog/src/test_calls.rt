@@ -77,16 +77,48 @@ fn ends_by<R: Threads + Sync + AllocGlobal>(
     failing: Failing<'_>,
     wanted: Wanted<'_>,
 ) -> bool {
-    let alloc = rt.alloc();
-    let (Ok(mut out), Ok(mut err)) = (MemOut::new(alloc, failing.1), MemOut::new(alloc, failing.2))
-    else {
-        return false;
-    };
+    match MemOut::new(rt.alloc(), failing.1) {
+        Ok(mut out) => ends_into(rt, words, files, &mut out, failing.2, wanted),
+        Err(_) => false,
+    }
+}
+
+fn ends_into<R: Threads + Sync + AllocGlobal>(
+    rt: &R,
+    words: &Words,
+    files: &mut MemFiles,
+    out: &mut MemOut,
+    failing: &[(u32, u32)],
+    wanted: Wanted<'_>,
+) -> bool {
+    match MemOut::new(rt.alloc(), failing) {
+        Ok(mut err) => {
+            let status = status_of(rt, words, files, out, &mut err);
+            status == wanted.0 && out.bytes() == wanted.1 && err.bytes() == wanted.2.as_bytes()
+        }
+        Err(_) => false,
+    }
+}
+
+// The status of a call without input.
+fn status_of<R: Threads + Sync + AllocGlobal>(
+    rt: &R,
+    words: &Words,
+    files: &mut MemFiles,
+    out: &mut MemOut,
+    err: &mut MemOut,
+) -> u8 {
     let mut input = SteadyInput::new(&[]);
-    let status = snel(
-        rt, alloc, words, files, &mut input, &mut out, &mut err, &OpenGate,
-    );
-    status == wanted.0 && out.bytes() == wanted.1 && err.bytes() == wanted.2.as_bytes()
+    snel(
+        rt,
+        rt.alloc(),
+        words,
+        files,
+        &mut input,
+        out,
+        err,
+        &OpenGate,
+    )
 }
 
 pub(crate) fn words_of(alloc: Global, texts: &[&str]) -> Result<Words, OutOfMemory> {

@@ -73,19 +73,27 @@ impl Blocks {
     ) -> Result<(), AllocError> {
         let start = self.bytes.len() as u64;
         let length = u32::try_from(block.len()).unwrap_or(0);
+        let mut entry = [0; 32];
+        entry[..8].copy_from_slice(&start.to_be_bytes());
+        entry[8..12].copy_from_slice(&length.to_be_bytes());
+        entry[12..16].copy_from_slice(&rows.to_be_bytes());
+        entry[16..24].copy_from_slice(&least.to_be_bytes());
+        entry[24..].copy_from_slice(&greatest.to_be_bytes());
         self.bytes.extend_from_slice(block)?;
-        self.entries.extend_from_slice(&start.to_be_bytes())?;
-        self.entries.extend_from_slice(&length.to_be_bytes())?;
-        self.entries.extend_from_slice(&rows.to_be_bytes())?;
-        self.entries.extend_from_slice(&least.to_be_bytes())?;
-        self.entries.extend_from_slice(&greatest.to_be_bytes())?;
+        self.entries.extend_from_slice(&entry)?;
         self.count = self.count.saturating_add(1);
         Ok(())
     }
 
     /// The bytes of the file.
-    pub(crate) fn finish(self) -> Result<Vec<u8>, AllocError> {
+    pub(crate) fn finish(&self) -> Result<Vec<u8>, AllocError> {
         let mut bytes = self.bytes.as_slice().to_vec(self.alloc)?;
+        self.add_index(&mut bytes)?;
+        Ok(bytes)
+    }
+
+    // Adds the index and the tail behind the blocks.
+    fn add_index(&self, bytes: &mut Vec<u8>) -> Result<(), AllocError> {
         let start = bytes.len() as u64;
         let length = u16::try_from(self.field.len()).unwrap_or(0);
         bytes.extend_from_slice(b"SNX1")?;
@@ -94,7 +102,6 @@ impl Blocks {
         bytes.extend_from_slice(&self.count.to_be_bytes())?;
         bytes.extend_from_slice(&self.entries)?;
         bytes.extend_from_slice(&start.to_be_bytes())?;
-        bytes.extend_from_slice(b"SNX1")?;
-        Ok(bytes)
+        bytes.extend_from_slice(b"SNX1")
     }
 }
