@@ -4,3 +4,4 @@ mod Memory
 mod Asked
 mod Comes
 mod PackedSo
+mod Steady
