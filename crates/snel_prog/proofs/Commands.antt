@@ -115,7 +115,7 @@ tells_counts stats sql names told sum h = record {
   asked = is_counted_so stats sum.read sum.skipped;
   right = λ q accepts files tells bs n count finds counts.
       let s = h q accepts files tells bs n finds in
-      ap (λ (r : ℕ). done_of stats r sum.skipped) (s.read count counts) ∙ ap (λ (k : ℕ). done_of stats (length (front count bs)) k) s.skipped;
+      ap (λ (r : ℕ). done_of stats r sum.skipped) (s.done count counts).read ∙ ap (λ (k : ℕ). done_of stats (length (front count bs)) k) s.skipped;
 }
 
 -- the headline of what is asked
