@@ -13,8 +13,6 @@ mod one_line;
 mod pairs;
 mod scanning;
 mod sink;
-#[cfg(test)]
-mod tests;
 mod values;
 
 pub use block::take_block;

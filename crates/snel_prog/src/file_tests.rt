@@ -44,6 +44,26 @@ fn two_blocks(alloc: Global, first: u8, greatest: i64) -> Result<Vec<u8>, AllocE
     blocks.finish()
 }
 
+// A block with two rows, of the first two seconds.
+const TWO_ROWS: &[u8] =
+    b"\xe0\x01\x00\xea\xe8\x81\x83\xd5\x87\xb3\x82ts\xda\x8a\x68\x80\x0f\xe8\x81\x81\x80\x80\x80\xda\x8a\x68\x80\x0f\xe8\x81\x81\x80\x80\x81";
+
+// The file `one` of the front of that block, of so many bytes, and of an entry of so many rows from the least to the greatest time.
+fn one_block(
+    alloc: Global,
+    length: usize,
+    rows: u32,
+    least: i64,
+    greatest: i64,
+    field: &str,
+) -> Result<MemFiles, AllocError> {
+    let mut blocks = Blocks::new(alloc, field.as_bytes())?;
+    blocks.push(TWO_ROWS.get(..length).unwrap_or(b""), rows, least, greatest)?;
+    let mut files = stored(alloc, &[])?;
+    add_made(&mut files, "one", blocks.finish())?;
+    Ok(files)
+}
+
 // So many blocks of the first second, of which those with the two numbers are damaged.
 fn many_blocks(alloc: Global, count: u8, bad: [u8; 2]) -> Result<Vec<u8>, AllocError> {
     let mut blocks = Blocks::new(alloc, b"")?;
@@ -97,6 +117,36 @@ fn ends_on_many<R: Threads + Sync + AllocGlobal>(
         Ok(mut files) => ends_over(rt, words, &mut files, failing, wanted),
         Err(_) => false,
     }
+}
+
+// The bytes, the rows, the times and the field of a block's entry, and whether the block is as they say.
+static ENTRIES: [(usize, u32, i64, i64, &str, bool); 9] = [
+    (35, 2, START, NEXT, "ts", true),
+    (35, 2, 0, i64::MAX, "ts", true),
+    (35, 2, 1, 0, "a", true),
+    (35, 2, 1, 0, "", true),
+    (35, 2, START, START, "ts", false),
+    (35, 2, NEXT, NEXT, "ts", false),
+    (35, 1, START, NEXT, "ts", false),
+    (35, 3, START, START, "ts", false),
+    (34, 2, START, NEXT, "ts", false),
+];
+
+#[test]
+fn a_block_is_as_its_entry_says(rt: HostRuntime) -> Result<(), Fail> {
+    for (length, rows, least, greatest, field, sound) in &ENTRIES {
+        let mut files = one_block(rt.alloc(), *length, *rows, *least, *greatest, field)?;
+        let wanted: Wanted<'_> = if *sound {
+            (0, TIMES.as_bytes(), "")
+        } else {
+            (6, b"", "snel: one: block 0 is damaged\n")
+        };
+        assert!(rt;
+            ends_over(&rt, &["query", ALL, "one"], &mut files, STEADY, wanted),
+            "{rows} {field}"
+        );
+    }
+    Ok(())
 }
 
 // Words, and what the call ends with.

@@ -3,7 +3,7 @@ use crate::test_files::{OF_A, OF_A_AND_B, file_of};
 use std::test::Fail;
 
 // Queries over the rows {"a":1,"b":"x"}, {"a":null} and {"b":7}, and their lines.
-static ANSWERS: [(&str, &str); 17] = [
+static ANSWERS: [(&str, &str); 18] = [
     ("SELECT a FROM logs", "{\"a\":1}\n{\"a\":null}\n{}\n"),
     ("SELECT * FROM logs WHERE a IS MISSING", "{\"b\":7}\n"),
     (
@@ -21,6 +21,10 @@ static ANSWERS: [(&str, &str); 17] = [
     (
         "SELECT 5 AS n, 'x' AS s, NULL AS o, MISSING AS m FROM logs WHERE b IS NULL OR a IS NULL",
         "{\"n\":5,\"s\":\"x\",\"o\":null}\n",
+    ),
+    (
+        "SELECT NULL AS n, TRUE AS t, -5 AS i, `1970-01-01T00:00:00Z` AS z, 'q\"' AS s FROM logs WHERE a IS MISSING",
+        "{\"n\":null,\"t\":true,\"i\":-5,\"z\":\"1970-01-01T00:00:00Z\",\"s\":\"q\\\"\"}\n",
     ),
     ("SELECT * FROM logs WHERE FALSE", ""),
     ("SELECT * FROM logs WHERE NULL", ""),
