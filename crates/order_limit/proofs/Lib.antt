@@ -2,4 +2,5 @@ mod Keys
 mod Rows
 mod Heaps
 mod Sorting
-mod Standing
+pub mod Standing
+pub mod Answered

@@ -1,5 +1,5 @@
 -- What adding a row to the first rows does to the rows for which they stand.
-use Rattle.std.proofs.Common.{◌≡◌, ℕ, ◌+◌, ◌-◌, ◌<◌, ◌≤◌, List, [], ◌∷◌, ◌++◌, length, get_or, map, take, drop, Option, Some, Bool, true, false, refl, sym, ap, ◌∙◌, subst, arith, append_assoc, append-nil}
+use Rattle.std.proofs.Common.{◌≡◌, ℕ, ◌+◌, ◌-◌, ◌<◌, ◌≤◌, List, [], ◌∷◌, ◌++◌, length, get_or, map, drop, Some, Bool, true, false, refl, sym, ap, ◌∙◌, subst, arith, append_assoc, append-nil}
 use Rattle.std.specs.Cmp.{IsStrictWeakOrder}
 use Rattle.std.specs.Ordering.{is_lt}
 use Rattle.std.specs.List.{All}
@@ -8,13 +8,13 @@ use Rattle.std.proofs.lemmas.List.{length-map, map-append, get_or-map, get_or_de
 use Rattle.std.proofs.lemmas.List.Sorted.{ranks_by, IsPermutation-refl, IsPermutation-sym, IsPermutation-cons, IsPermutation-trans, IsPermutation-middle, IsPermutation-to_front, IsPermutation-append, IsPermutation-append_left, IsPermutation-map, All-permutation, length_permutation}
 use Rattle.std.proofs.lemmas.List.Elements.{All-nil, All-cons, All-head, All-tail, All-push, All-weaker, All-map}
 use Rattle.value_meaning.specs.Val.{Val}
-use Rattle.answer_meaning.specs.Answers.{keys_cmp, limited}
+use Rattle.answer_meaning.specs.Answers.{keys_cmp}
 use Rattle.snel_values.specs.declared.made.MadeRow.{MadeRow}
 use Rattle.snel_values.specs.Made.{row_view}
 use Rattle.order_limit.specs.Arranged.{Row, AreKeyed, IsArranged}
 use Rattle.order_limit.specs.Padded.{padded_cmp}
 use Rattle.order_limit.specs.Heaps.{row_before, IsHeap, Adds, fills, drops, replaces}
-use Rattle.order_limit.specs.Top.{Top, is_before, StandsFor}
+use Rattle.order_limit.specs.Top.{is_before, StandsFor}
 use Rattle.order_limit.proofs.Keys.{padded_total, padded_is}
 use Rattle.order_limit.proofs.Heaps.{below_none}
 use Rattle.order_limit.proofs.Sorting.{sorted, sorted_is, sorted_rises, is_sorted, rises, rises_on, front_less}

@@ -2,3 +2,4 @@ pub mod Arranged
 pub mod Padded
 pub mod Heaps
 pub mod Top
+pub mod Laws

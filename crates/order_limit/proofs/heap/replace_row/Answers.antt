@@ -1,4 +1,4 @@
-use Rattle.std.proofs.Common.{◌≡◌, List, get_or, set, true, false, not, refl, sym, subst, ap, ◌∙◌, arith}
+use Rattle.std.proofs.Common.{◌≡◌, List, get_or, set, true, false, not, refl, sym, subst, ◌∙◌, arith}
 use Rattle.std.specs.List.Sorted.{IsPermutation}
 use Rattle.snel_values.specs.declared.made.MadeRow.{MadeRow}
 use Rattle.order_limit.specs.Heaps.{row_before, drops}

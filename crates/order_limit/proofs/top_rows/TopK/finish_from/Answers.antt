@@ -1,4 +1,4 @@
-use Rattle.std.proofs.Common.{◌≡◌, ◌∙◌, ap, map, drop, List, Bool, Some, subst}
+use Rattle.std.proofs.Common.{◌≡◌, ◌∙◌, ap, map, List, Bool, Some, subst}
 use Rattle.std.specs.List.Sorted.{IsSortedBy}
 use Rattle.std.proofs.lemmas.Result.{IfOk-weaker}
 use Rattle.std.specs.Prelude.{◌-◌, IfOk}

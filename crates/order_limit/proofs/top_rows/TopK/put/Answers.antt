@@ -1,7 +1,6 @@
-use Rattle.std.proofs.Common.{◌∷◌, [], ◌++◌, List, Bool, map, length, sym, subst, ap, ◌∙◌}
+use Rattle.std.proofs.Common.{List, Bool, map, length, sym, subst, ap, ◌∙◌}
 use Rattle.std.proofs.lemmas.Result.{on_ok_weaker}
 use Rattle.snel_values.specs.Made.{row_view}
-use Rattle.order_limit.specs.Arranged.{Row}
 use Rattle.order_limit.specs.Heaps.{row_before, Adds}
 use Rattle.order_limit.specs.Top.{Top, StandsFor}
 use Rattle.order_limit.proofs.Standing.{stands_added, seen_adds}
