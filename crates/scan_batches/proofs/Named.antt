@@ -1,16 +1,16 @@
 -- The first bad block of a batch, by its numbers.
-use Rattle.std.proofs.Common.{◌≡◌, ℕ, zero, suc, ◌<◌, List, [], ◌∷◌, length, map, Option, Some, None, refl, sym, ap, ◌∙◌, subst, arith}
-use Rattle.std.specs.Prelude.{slice_get, Err, IsErrOf, Result, ◌≤◌}
+use Rattle.std.proofs.Common.{◌≡◌, ℕ, zero, suc, ◌<◌, List, [], ◌∷◌, length, Option, Some, refl, sym, ap, ◌∙◌, subst, arith}
+use Rattle.std.specs.Prelude.{slice_get, Err, IsErrOf, ◌≤◌}
 use Rattle.std.specs.Option.{ForSome}
 use Rattle.snel_device.specs.Contents.{Contents}
 use Rattle.snel_device.specs.Causes.{HasCause}
 use Rattle.scan_meaning.specs.Blocks.{Place, Block}
 use Rattle.scan_meaning.specs.Batches.{first_bad}
 use Rattle.scan_files.specs.Places.{Held, block_held, blocks_held, blocks_at}
-use Rattle.scan_batches.specs.Scans.{SaysOfBatch, NamesBlock, IsNumbered, IsReading}
+use Rattle.scan_batches.specs.Scans.{SaysOfBatch, NamesBlock, IsReading}
 use Rattle.scan_batches.specs.declared.fault.BatchFault.TheVariants.{Bad}
 use Rattle.scan_batches.specs.declared.fault.ScanFault.{ScanFault}
-use Rattle.scan_batches.specs.declared.fault.ScanFault.TheVariants.{Damaged, ReadFault, WriteFault, OutOfMemory}
+use Rattle.scan_batches.specs.declared.fault.ScanFault.TheVariants.{Damaged, ReadFault}
 
 -- the bytes that the numbered block was read to
 held_at : (fields : List (List ℕ)) (hs : List Held) (k : ℕ) (b : Block) → slice_get (blocks_held fields hs) k ≡ Some b → (h : Held) × (slice_get hs k ≡ Some h) × (b ≡ block_held fields h)

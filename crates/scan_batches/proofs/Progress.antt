@@ -1,10 +1,10 @@
 -- A scan of blocks, batch by batch.
-use Rattle.std.proofs.Common.{◌≡◌, ◌⊎◌, inl, inr, ℕ, zero, suc, ◌+◌, ◌-◌, ◌*◌, ◌^◌, ◌<◌, ◌≤◌, ◌/◌, min, true, List, [], ◌∷◌, ◌++◌, length, take, drop, map, Option, Some, None, refl, sym, ap, ◌∙◌, subst, arith, add-one, take-append-drop, append_assoc}
-use Rattle.std.specs.Prelude.{◌≢◌, IsPermutation, sum_by}
+use Rattle.std.proofs.Common.{◌≡◌, ◌⊎◌, inl, inr, ℕ, zero, suc, ◌+◌, ◌-◌, ◌*◌, ◌<◌, ◌≤◌, ◌/◌, true, List, [], ◌∷◌, ◌++◌, length, drop, map, Option, Some, None, refl, sym, ap, ◌∙◌, subst, arith, take-append-drop}
+use Rattle.std.specs.Prelude.{◌≢◌, IsPermutation}
 use Rattle.std.specs.Option.{option_map}
 use Rattle.std.proofs.Math.Logic.{⊎_elim}
 use Rattle.std.proofs.lemmas.Bool.{cases_lt}
-use Rattle.std.proofs.lemmas.List.{append-nil, take_all, length-append, map-append}
+use Rattle.std.proofs.lemmas.List.{length-append, map-append}
 use Rattle.answer_meaning.specs.Lines.{line_text}
 use Rattle.std.proofs.lemmas.List.Sums.{sum_by-append}
 use Rattle.std.proofs.lemmas.List.Sorted.{IsPermutation-refl}
@@ -17,14 +17,14 @@ use Rattle.eval_meaning.specs.Passed.{passed}
 use Rattle.answer_meaning.specs.Made.{Made}
 use Rattle.made_meaning.specs.MadeRows.{made}
 use Rattle.scan_meaning.specs.Blocks.{Block}
-use Rattle.scan_meaning.specs.Batches.{rows_of, first_bad, size_of, front, batch, is_plain, need, count_passed, IsShort, BatchCounts, Counts, IsFirstBad, MayPass}
+use Rattle.scan_meaning.specs.Batches.{rows_of, first_bad, size_of, front, batch, is_plain, need, count_passed, IsShort, BatchCounts, Counts, IsFirstBad}
 use Rattle.scan_meaning.specs.Answers.{AddsAnswer, AddsWhole, StopsAt, StopsReading, IsPrefix}
 use Rattle.scan_meaning.proofs.Batches.{front_more, rows-append, rows_more, good_more, among, size_within}
-use Rattle.scan_meaning.proofs.Plain.{made-append, made_count, passed-append, needs, cut_both, cut_none, adds_more}
+use Rattle.scan_meaning.proofs.Plain.{made-append, made_count, passed-append, needs, adds_more}
 use Rattle.scan_batches.specs.Lines.{made_lines, text_of, let_through, left_of}
 use Rattle.scan_batches.specs.Scans.{chunks_of, Scans}
 use Rattle.scan_batches.specs.Outcome.{Finished}
-use Rattle.scan_batches.proofs.Texts.{adds_whole, adds_part, made_long, Appends-both, Appends-nothing, text-append}
+use Rattle.scan_batches.proofs.Texts.{adds_whole, adds_part, made_long}
 
 -- After so many batches: each of them counts, none of their blocks is bad, and these are the lines and the counts of their rows.
 pub record Scanned (q : Query) (bs : List Block) (j : ℕ) (lines : List (List ℕ)) (chunks kept : ℕ) : Type 0 where

@@ -1,10 +1,12 @@
 -- Lines that are put one after the other, and the range of those that are let through.
-use Rattle.std.proofs.Common.{◌≡◌, ◌⊎◌, ℕ, zero, suc, ◌+◌, ◌-◌, ◌<◌, ◌≤◌, min, List, [], ◌∷◌, ◌++◌, length, take, drop, Option, Some, None, refl, sym, ap, ◌∙◌, subst, arith, append_assoc, take-append-drop}
+use Rattle.std.proofs.Common.{◌≡◌, ◌⊎◌, ℕ, zero, suc, ◌+◌, ◌-◌, ◌<◌, ◌≤◌, min, List, [], ◌∷◌, ◌++◌, length, take, drop, Option, Some, refl, sym, ap, ◌∙◌, subst, arith, append_assoc, take-append-drop}
 use Rattle.std.specs.Prelude.{slice_get}
 use Rattle.std.proofs.Math.Logic.{⊎_elim}
 use Rattle.std.proofs.lemmas.Bool.{cases_lt}
-use Rattle.std.proofs.lemmas.List.{append-nil, take_all, drop_all, length-drop, length-take}
+use Rattle.std.proofs.lemmas.List.{append-nil, take_all, drop_all, length-drop, length-take, length-map}
 use Rattle.std.specs.Io.KnownBytes.{Appends}
+use Rattle.value_meaning.specs.Val.{Val}
+use Rattle.scan_batches.specs.Gathers.{lines_of}
 use Rattle.scan_batches.specs.Lines.{text_of, let_through, TakesPart}
 use Rattle.scan_batches.proofs.Texts.{Appends-both, Appends-nothing, text-append}
 
@@ -77,3 +79,15 @@ range_is skip from left most take_most lines from_is cut left_is =
         (λ (l : skip < length lines). let f : from ≡ skip = omega arith in ap (λ (n : ℕ). drop n lines) f)
         (λ (g : length lines ≤ skip). let f : from ≡ length lines = omega arith in drop_all from lines (omega arith) ∙ sym (drop_all skip lines g))
         h
+
+-- the line of a made row at a place
+pub line_at : (rows : List (List Val × List ℕ)) (at : ℕ) (keys : List Val) (line : List ℕ) → Some (keys, line) ≡ slice_get rows at → slice_get (lines_of rows) at ≡ Some line
+line_at [] at keys line got = absurd (cc)
+line_at (r ∷ rs) zero keys line got = let same : (keys, line) ≡ r = cc in ap (λ (x : List Val × List ℕ). Some x.1) (sym same)
+line_at (r ∷ rs) (suc n) keys line got = line_at rs n keys line got
+
+pub all_between : (lines : List (List ℕ)) (n : ℕ) → n ≡ length lines → between 0 n lines ≡ lines
+all_between lines n is = let e : n - 0 ≡ n = omega arith in ap (λ (k : ℕ). take k lines) e ∙ take_all n lines (omega arith)
+
+pub lines_long : (rows : List (List Val × List ℕ)) → length (lines_of rows) ≡ length rows
+lines_long rows = length-map rows (λ r. r.1)

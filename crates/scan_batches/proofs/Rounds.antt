@@ -1,6 +1,6 @@
 -- A scan of places in files that may be told, while lines are put.
-use Rattle.std.proofs.Common.{◌≡◌, ◌⊎◌, inl, inr, ℕ, zero, suc, ◌+◌, ◌-◌, ◌*◌, ◌<◌, ◌≤◌, min, true, List, [], ◌∷◌, ◌++◌, length, take, drop, map, Option, Some, None, refl, sym, ap, ◌∙◌, subst, arith, append_assoc}
-use Rattle.std.specs.Prelude.{◌≢◌, Ok, Err}
+use Rattle.std.proofs.Common.{◌≡◌, inl, inr, ℕ, ◌+◌, ◌-◌, ◌*◌, ◌<◌, ◌≤◌, min, true, List, [], ◌++◌, length, take, drop, Option, Some, None, refl, sym, ap, ◌∙◌, subst, arith, append_assoc}
+use Rattle.std.specs.Prelude.{◌≢◌, Err}
 use Rattle.std.specs.Option.{ForSome}
 use Rattle.std.specs.Io.KnownBytes.{Appends}
 use Rattle.std.proofs.lemmas.List.{append-nil, length-take, length-map, length-append}
@@ -9,19 +9,18 @@ use Rattle.snel_device.specs.Causes.{raised}
 use Rattle.tree_meaning.specs.Tree.{Query}
 use Rattle.scan_meaning.specs.Blocks.{Place, Block}
 use Rattle.scan_meaning.specs.Batches.{rows_of, first_bad, front, batch, size_of, is_plain, need, IsShort, BatchCounts, Counts}
-use Rattle.scan_meaning.specs.Answers.{AddsAnswer, IsPrefix, StopsReading}
+use Rattle.scan_meaning.specs.Answers.{AddsAnswer, IsPrefix}
 use Rattle.scan_meaning.proofs.Batches.{among, size_within}
 use Rattle.scan_meaning.proofs.Plain.{cut_both, cut_none}
 use Rattle.scan_files.specs.Places.{block_at, blocks_at, room_of}
 use Rattle.scan_files.proofs.Parts.{batch_at, room_more, room_front}
-use Rattle.scan_batches.specs.Lines.{made_lines, text_of, let_through, left_of, TakesPart, TakesSome}
-use Rattle.scan_batches.specs.Scans.{Scans, NamesBlock, IsNumbered, IsReading}
+use Rattle.scan_batches.specs.Lines.{text_of, let_through, left_of, TakesPart, TakesSome}
+use Rattle.scan_batches.specs.Scans.{Scans, NamesBlock, IsReading}
 use Rattle.scan_batches.specs.Outcome.{ScansTo, Finished}
-use Rattle.scan_batches.specs.declared.scan.Done.{Done}
 use Rattle.scan_batches.specs.declared.fault.ScanFault.{ScanFault}
 use Rattle.scan_batches.specs.declared.fault.ScanFault.TheVariants.{Damaged, ReadFault, WriteFault, OutOfMemory}
 use Rattle.scan_batches.proofs.Texts.{Appends-both, Appends-nothing, text-append}
-use Rattle.scan_batches.proofs.Progress.{Scanned, nothing_scanned, makes_nothing, is_enough, is_short, long, opens, steps, finished, stops_at, stops_reading, cut_lines, cost_so_far}
+use Rattle.scan_batches.proofs.Progress.{Scanned, nothing_scanned, makes_nothing, is_enough, is_short, opens, steps, finished, stops_at, stops_reading, cut_lines, cost_so_far}
 
 -- After so many batches: what OFFSET and LIMIT have left, what was put, and, where files are told, what was scanned.
 pub record Underway (told : Option Contents) (q : Query) (names fields : List (List ℕ)) (ps : List Place) (j skip : ℕ) (most : Option ℕ) (put chunks kept : ℕ) (old now : Option (List ℕ)) : Type 0 where

@@ -1,7 +1,6 @@
 -- Lines as the text of an answer.
-use Rattle.std.proofs.Common.{◌≡◌, ℕ, zero, suc, ◌+◌, ◌-◌, ◌<◌, ◌≤◌, true, List, [], ◌∷◌, ◌++◌, length, take, drop, map, Option, Some, None, refl, sym, ap, ◌∙◌, subst, arith, append_assoc}
-use Rattle.std.specs.Prelude.{flat_map, IsPermutation}
-use Rattle.std.proofs.lemmas.List.{append-nil, length-map, map-append, take-map, drop-map, length-append}
+use Rattle.std.proofs.Common.{◌≡◌, ℕ, true, List, [], ◌∷◌, ◌++◌, length, drop, map, Option, Some, None, refl, sym, ap, ◌∙◌, subst, append_assoc}
+use Rattle.std.proofs.lemmas.List.{append-nil, length-map, take-map, drop-map}
 use Rattle.std.proofs.lemmas.Grind.{flat_map-append}
 use Rattle.std.proofs.lemmas.List.Sorted.{IsPermutation-refl}
 use Rattle.std.specs.Io.KnownBytes.{Appends}
@@ -14,7 +13,7 @@ use Rattle.made_meaning.specs.MadeRows.{made}
 use Rattle.scan_meaning.specs.Batches.{is_plain}
 use Rattle.scan_meaning.specs.Answers.{AddsWhole, AddsAnswer, IsPrefix}
 use Rattle.scan_meaning.proofs.Plain.{cut, outputs_of, unsorted, in_any_order}
-use Rattle.scan_batches.specs.Lines.{made_lines, text_of, let_through, left_of}
+use Rattle.scan_batches.specs.Lines.{made_lines, text_of, let_through}
 
 text_is : (os : List Output) → text_of (map line_text os) ≡ print os
 text_is [] = refl

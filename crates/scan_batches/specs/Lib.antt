@@ -1,3 +1,4 @@
 pub mod Lines
 pub mod Scans
 pub mod Outcome
+pub mod Gathers

@@ -1,5 +1,5 @@
 -- What scanning a batch says.
-use Rattle.std.specs.Prelude.{◌≡◌, ℕ, ◌+◌, ◌/◌, List, slice_get, ⊤, Option, Some, None, sum_by}
+use Rattle.std.specs.Prelude.{◌≡◌, ℕ, ◌+◌, ◌/◌, List, slice_get, ⊤, Some, None, sum_by}
 use Rattle.snel_device.specs.Causes.{raised}
 use Rattle.tree_meaning.specs.Tree.{Query}
 use Rattle.scan_meaning.specs.Blocks.{Block}
@@ -8,7 +8,7 @@ use Rattle.scan_batches.specs.Lines.{made_lines}
 use Rattle.scan_batches.specs.declared.fault.BatchFault.{BatchFault}
 use Rattle.scan_batches.specs.declared.fault.BatchFault.TheVariants as batch
 use Rattle.scan_batches.specs.declared.fault.ScanFault.{ScanFault}
-use Rattle.scan_batches.specs.declared.fault.ScanFault.TheVariants.{Damaged, ReadFault, WriteFault, OutOfMemory}
+use Rattle.scan_batches.specs.declared.fault.ScanFault.TheVariants.{Damaged, WriteFault}
 
 -- sixteen rows are a chunk
 abbrev pub chunks_of : List Block → ℕ

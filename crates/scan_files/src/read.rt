@@ -38,6 +38,7 @@ pub fn read_batch<F: Files>(
     ensures blocks { IfOk result (λ bs. ForSome (F.told files.old) (λ told.
         (fields : List (List ℕ)) → blocks_held fields bs.items
         ≡ blocks_at told names.now fields places.now)) }
+    ensures count { IfOk result (λ bs. length bs.items ≡ length places.now) }
     ensures refused { IfErr result (λ fault. IsReadOrMemory fault) }
     ensures fault { HasCause (F.read_faults files.old) (F.read_faults files.new)
         (IsErrOf result FilesFault.ReadFault) }

@@ -1,4 +1,4 @@
-use Rattle.std.proofs.Common.{◌≤◌, sym, arith}
+use Rattle.std.proofs.Common.{sym, arith}
 use Rattle.scan_batches.proofs.Puts.{put_one, put_cut}
 use Rattle.scan_batches.proofs.put.put_lines.Goals as goal
 

@@ -1,6 +1,4 @@
-use Rattle.std.proofs.Common.{◌≡◌, ◌+◌, ◌-◌, ◌*◌, ap, ◌<◌, ◌≤◌, ℕ, length, refl, sym, ◌∙◌, subst, arith}
-use Rattle.std.specs.Prelude.{◌≢◌, Some}
-use Rattle.tree_meaning.specs.Tree.{Query}
+use Rattle.std.proofs.Common.{◌-◌, ◌*◌, ap, ◌<◌, ℕ, length, refl, sym, ◌∙◌, arith}
 use Rattle.scan_batches.specs.Lines.{left_of}
 use Rattle.scan_meaning.specs.Blocks.{Place}
 use Rattle.scan_files.specs.Places.{IsPlaced, blocks_at}

@@ -1,4 +1,4 @@
-use Rattle.std.proofs.Common.{◌≡◌, ◌+◌, ◌≤◌, ℕ, List, take}
+use Rattle.std.proofs.Common.{◌≡◌, ◌+◌, ◌≤◌, ℕ, List, length, take}
 use Rattle.std.specs.Option.{ForSome}
 use Rattle.scan_files.specs.Places.{blocks_at, blocks_held, room_of}
 use Rattle.scan_files.proofs.read.read_batch.Given as goal
@@ -12,4 +12,5 @@ invariant-loop-place g l = record {
   later : g.F.Files.taken l.fn.files ≤ g.F.Files.taken l.files;
   most : g.F.Files.taken l.files ≤ g.F.Files.taken l.fn.files + room_of (take l.place-index l.places);
   blocks : ForSome (g.F.Files.told l.fn.files) (λ told. (fields : List (List ℕ)) → blocks_held fields l.blocks.items ≡ blocks_at told l.names fields (take l.place-index l.places));
+  count : length l.blocks.items ≡ l.place-index;
 }

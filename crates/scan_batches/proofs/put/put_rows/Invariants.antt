@@ -1,0 +1,12 @@
+use Rattle.std.proofs.Common.{◌≤◌}
+use Rattle.std.specs.Io.KnownBytes.{Appends}
+use Rattle.scan_batches.specs.Lines.{text_of}
+use Rattle.scan_batches.specs.Gathers.{lines_of}
+use Rattle.scan_batches.proofs.Puts.{between}
+use Rattle.scan_batches.proofs.put.put_rows.Given as goal
+
+abbrev pub invariant-loop-at : goal.invariant-loop-at
+invariant-loop-at g l = record {
+  put : Appends (g.O.Out.holds l.fn.out) (g.O.Out.holds l.out) (text_of (between 0 l.at (lines_of l.rows)));
+  later : g.O.Out.faults l.fn.out ≤ g.O.Out.faults l.out;
+}
