@@ -4,3 +4,4 @@ mod Heaps
 mod Sorting
 pub mod Standing
 pub mod Answered
+mod Joining

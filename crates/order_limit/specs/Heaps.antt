@@ -1,12 +1,18 @@
 -- Heaps of rows, and what adding a row to the first rows does.
-use Rattle.std.specs.Prelude.{◌≡◌, ◌≢◌, ℕ, ◌+◌, ◌*◌, ◌<◌, ◌≤◌, Bool, true, false, List, [], ◌∷◌, ◌++◌, length, slice_index_or, All, IsPermutation}
+use Rattle.std.specs.Prelude.{◌≡◌, ◌≢◌, ℕ, ◌+◌, ◌*◌, ◌<◌, ◌≤◌, Bool, true, false, List, [], ◌∷◌, ◌++◌, length, slice_index_or, map, All, IsPermutation}
 use Rattle.std.specs.Ordering.{is_lt}
 use Rattle.snel_values.specs.declared.made.MadeRow.{MadeRow}
+use Rattle.snel_values.specs.Made.{row_view}
 use Rattle.order_limit.specs.Padded.{padded_cmp}
+use Rattle.order_limit.specs.Top.{Top}
 
 -- whether a row comes before another
 abbrev pub row_before : List Bool → MadeRow → MadeRow → Bool
 row_before falling a b = is_lt (padded_cmp falling a.keys b.keys)
+
+-- the first rows, as they are held
+abbrev pub top_of : List Bool → ℕ → List MadeRow → Top
+top_of falling most rows = record { falling = falling; most = most; held = map row_view rows }
 
 -- no element is below one of its children, which for place p are at 2 p + 1 and 2 p + 2
 abbrev pub IsHeap : {X : Type 0} → (X → X → Bool) → List X → Type 0

@@ -56,7 +56,7 @@ pub(crate) fn skip_rows(all: &mut Vec<MadeRow>, skip: u64) -> Result<Vec<MadeRow
 }
 
 /// Keeps at most so many rows.
-fn limit_rows(kept: &mut Vec<MadeRow>, most: Option<u64>)
+pub(crate) fn limit_rows(kept: &mut Vec<MadeRow>, most: Option<u64>)
     ensures { kept.new.items ≡ limited most kept.old.items }
 {
     if let Some(most) = most {

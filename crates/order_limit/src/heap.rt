@@ -1,9 +1,12 @@
 //! Rows as a heap, in which no row comes before one of its children: the last row by the sort keys stands first.
-ghost use Rattle.std.specs.Prelude.{◌≡◌, ◌/◌, ◌<◌, not, length, slice_index_or, OnOk, OnErr, IsPermutation};
+ghost use Rattle.std.specs.Prelude.{◌≡◌, ◌/◌, ◌<◌, ◌++◌, List, not, length, map, slice_index_or, OnOk, OnErr, IsPermutation};
 ghost use Rattle.std.specs.List.Sorted.{IsSortedBy};
 ghost use Rattle.std.specs.Ordering.{is_lt};
+ghost use Rattle.snel_values.specs.Made.{row_view};
+ghost use Rattle.order_limit.specs.Arranged.{Row, AreKeyed};
 ghost use Rattle.order_limit.specs.Padded.{padded_cmp};
-ghost use Rattle.order_limit.specs.Heaps.{row_before, IsHeap, IsHeapBut, IsKept, IsLastChild, Adds};
+ghost use Rattle.order_limit.specs.Top.{StandsFor};
+ghost use Rattle.order_limit.specs.Heaps.{row_before, IsHeap, IsHeapBut, IsKept, IsLastChild, Adds, top_of};
 
 use crate::compare::compare_keys;
 use snel_values::{Items, MadeRow, OutOfMemory};
@@ -17,17 +20,41 @@ pub(crate) fn add_row(
     rows: &mut Vec<MadeRow>,
     row: MadeRow,
 ) -> Result<(), OutOfMemory>
-    requires some { 0 < most }
     requires kept { IsKept falling.now most rows.old.items }
     ensures kept { OnOk result (IsKept falling.now most rows.new.items) }
     ensures adds { OnOk result
         (Adds (row_before falling.now) most rows.old.items row rows.new.items) }
     ensures err { OnErr result (rows.new.items ≡ rows.old.items) }
 {
+    if most == 0 {
+        return Ok(());
+    }
     if rows.len() < most {
         return fill_row(falling, most, rows, row);
     }
     replace_row(falling, most, rows, row);
+    Ok(())
+}
+
+/// Adds rows one after the other.
+pub(crate) fn add_rows(
+    falling: &[bool],
+    most: usize,
+    rows: &mut Vec<MadeRow>,
+    others: Vec<MadeRow>,
+) -> Result<(), OutOfMemory>
+    requires kept { IsKept falling.now most rows.old.items }
+    ensures kept { IsKept falling.now most rows.new.items }
+    ensures stands { OnOk result ((all : List Row) → StandsFor (top_of falling.now most rows.old.items) all
+        → AreKeyed falling.now (map row_view others.items)
+        → StandsFor (top_of falling.now most rows.new.items) (all ++ map row_view others.items)) }
+{
+    for row in others {
+        match add_row(falling, most, rows, row) {
+            Ok(()) => {}
+            Err(OutOfMemory) => return Err(OutOfMemory),
+        }
+    }
     Ok(())
 }
 
