@@ -1,0 +1,10 @@
+//! Scanning the blocks of a batch by workers. [`scan_blocks`] hands the rows that pass to a [`SharedSink`], in any order:
+//! `scan_blocks(&rt, alloc, &gate, 4, &job, &heads, &fields, &blocks, &mut sink, &mut ran)?`.
+#![tactic(auto)]
+
+mod each;
+mod scan;
+mod shared;
+
+pub use scan::scan_blocks;
+pub use shared::SharedSink;
