@@ -1,3 +1,4 @@
 pub mod Summaries
 pub mod Rows
+pub mod Values
 pub mod Laws

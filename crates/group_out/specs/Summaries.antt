@@ -1,5 +1,5 @@
 -- The rows of finished groups: the values of a group's keys, and of the query's aggregates over it.
-use Rattle.std.specs.Prelude.{◌≡◌, List, Option, Some, map, All}
+use Rattle.std.specs.Prelude.{◌≡◌, List, Some, map, All}
 use Rattle.std.specs.List.{AllZip}
 use Rattle.value_meaning.specs.Val.{Val}
 use Rattle.tree_meaning.specs.Tree.{Query}

@@ -1,8 +1,7 @@
-use Rattle.std.specs.List.{filter}
 use Rattle.std.proofs.lemmas.List.Sorted.{IsPermutation-map}
 use Rattle.agg_meaning.proofs.Filters.{filter-shuffled}
 use Rattle.made_meaning.specs.OverGroups.{groups, over}
-use Rattle.made_meaning.specs.MadeRows.{has_true, made_group, kept_groups}
+use Rattle.made_meaning.specs.MadeRows.{has_true, made_group}
 use Rattle.group_out.specs.Rows.{keyed}
 use Rattle.group_out.proofs.order_of_groups_is_free.Goals as goal
 
