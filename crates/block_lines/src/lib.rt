@@ -23,4 +23,4 @@ pub use line_list::Lines;
 pub use pairs::append_look;
 pub use scanning::{scan_block, scan_rows};
 pub use sink::RowSink;
-pub use values::look_value;
+pub use values::{look_value, values_of};

@@ -17,7 +17,7 @@ use snel_values::{Items, OutOfMemory, Text, Value};
 use std::alloc::Global;
 
 /// The values of the registers in a lane, which is below 16, in their order.
-pub(crate) fn values_of<'b>(
+pub fn values_of<'b>(
     alloc: Global,
     frame: &Frame<'b>,
     table: &SymTab<'b>,

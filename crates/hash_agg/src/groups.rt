@@ -206,6 +206,14 @@ impl Groups {
         Ok(rows)
     }
 
+    /// Tells what holds of all groups.
+    pub fn know(&self)
+        ensures apart { AreApart self.now.entries }
+        ensures few { length self.now.entries ≤ self.now.limit }
+    {
+        let _limit = self.limit;
+    }
+
     /// How many groups there are.
     pub fn len(&self) -> u32
         ensures { result ≡ length self.now.entries }

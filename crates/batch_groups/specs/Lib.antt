@@ -1,0 +1,4 @@
+pub mod Keyed
+pub mod Gathered
+pub mod Growing
+pub mod OfQuery
