@@ -1,4 +1,6 @@
 pub mod Counting
 pub mod Rooms
 pub mod Taking
+pub mod Merged
 pub mod Summing
+pub mod Summaries

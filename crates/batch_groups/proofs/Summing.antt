@@ -28,8 +28,10 @@ use Rattle.hash_agg.specs.Finished.{row_of}
 use Rattle.hash_agg.proofs.GroupLaws.{values_are_aggregates}
 use Rattle.hash_agg.proofs.Places.{by_test, hit, miss}
 use Rattle.batch_groups.specs.Keyed.{operand_at, keyed_row}
-use Rattle.batch_groups.specs.OfQuery.{operand_or_missing, operand_value, keyed_pair, keyed_pairs, row_of_keys, AreGroupRows}
-use Rattle.batch_groups.proofs.Counting.{keys_of, entries_permute}
+use Rattle.batch_groups.specs.OfQuery.{operand_or_missing, operand_value, keyed_pair, keyed_pairs, row_of_keys, AreGroupRows, IsWithin}
+use Rattle.hash_agg.specs.Held.{Held}
+use Rattle.batch_groups.specs.Gathered.{Gathered, StandFor}
+use Rattle.batch_groups.proofs.Counting.{keys_of, entries_permute, count_is}
 use Rattle.batch_groups.proofs.Rooms.{there}
 
 -- the row of each entry is that of its keys
@@ -52,6 +54,15 @@ are_group_rows names rows es a stand = record {
   is = rows_are names rows es a (λ ks ss f. sym f ∙ stand ks);
 }
 
+-- the groups that are held, and those that are shown
+pub finished : (g : Gathered) (held : Held) (made : List (List Val × List Val)) (rows : List Keyed) → held ≡ g.groups → g.over ≡ false → AreApart held.entries → length held.entries ≤ held.limit → made ≡ map (row_of held.names) held.entries
+    → StandFor g.groups g.over rows → IsWithin g.groups.limit g.groups.names rows made
+finished g held made rows e within apart few rows_is stand =
+    let stands : GroupsStandFor held.names held.entries rows = subst (λ (h : Held). GroupsStandFor h.names h.entries rows) (sym e) (subst (λ b. StandFor g.groups b rows) within stand) in
+    let many = count_is held.names held.entries rows apart stands in
+    let own : IsWithin held.limit held.names rows (map (row_of held.names) held.entries) = record { few = omega arith; made_of = are_group_rows held.names rows held.entries apart stands } in
+    subst (λ (h : Held). IsWithin h.limit h.names rows made) e (subst (IsWithin held.limit held.names rows) (sym rows_is) own)
+
 -- the operands that registers show are the values of the aggregates' operands
 operands_are : (s : State) (p : Pair) (ends : List (AggName × Option ℕ)) (es : List Ex) → map (λ (a : AggName × Option ℕ). Some (a.0, option_map (value_at s) a.1)) ends ≡ map (operand_on p) es
     → map (operand_at s) ends ≡ map (operand_value p) es
@@ -67,7 +78,7 @@ operands_are s p ((name, o) ∷ ends) (e ∷ es) h =
     one None = refl
     one (Some r) = refl
 
-grouped_are : {A : Type 0} (q : Query) (xs : List A) → is_grouped q ≡ true → if_grouped q xs ≡ xs
+pub grouped_are : {A : Type 0} (q : Query) (xs : List A) → is_grouped q ≡ true → if_grouped q xs ≡ xs
 grouped_are q xs h = rw h refl
 
 -- what a job that simulates a grouped query makes of its rows

@@ -76,11 +76,11 @@ keyed_there job row s o e h keys operands k l =
     let operands_are : operands ≡ map (operand_at (registers_on job row)) job.ends.aggs = l ∙ ap (λ (t : State). map (operand_at t) job.ends.aggs) same in
     λ i. (keys_are i, operands_are i)
 
-on_ok_all : {T E X : Type 0} (P Q : X → Type 0) (r : Result T E) → ((x : X) → P x → OnOk r (Q x)) → OnOk r ((x : X) → P x → Q x)
+pub on_ok_all : {T E X : Type 0} (P Q : X → Type 0) (r : Result T E) → ((x : X) → P x → OnOk r (Q x)) → OnOk r ((x : X) → P x → Q x)
 on_ok_all P Q (Ok v) h = h
 on_ok_all P Q (Err e) h = tt
 
-on_ok_then : {T E P Q : Type 0} (r : Result T E) → (P → Q) → OnOk r P → OnOk r Q
+pub on_ok_then : {T E P Q : Type 0} (r : Result T E) → (P → Q) → OnOk r P → OnOk r Q
 on_ok_then (Ok v) f h = f h
 on_ok_then (Err e) f h = tt
 

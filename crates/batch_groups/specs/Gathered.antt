@@ -1,5 +1,5 @@
 -- The groups of rows that are gathered.
-use Rattle.std.specs.Prelude.{◌≡◌, ℕ, ◌<◌, ◌≤◌, Bool, true, false, List, ◌++◌, length, map}
+use Rattle.std.specs.Prelude.{◌≡◌, ℕ, ◌<◌, ◌≤◌, Bool, true, false, List, [], ◌++◌, length, map}
 use Rattle.value_meaning.specs.Val.{Val}
 use Rattle.program_meaning.specs.Jobs.{Job}
 use Rattle.hash_agg.specs.Groups.{Keyed, GroupsStandFor}
@@ -34,3 +34,16 @@ pub record Grew (old new : Gathered) (job : Job) (rows : List Val) : Type 0 wher
   pub stand :
       (xs : List Keyed) → StandFor old.groups old.over xs
       → StandFor new.groups new.over (xs ++ map (keyed_row job) rows)
+
+-- the second holds nothing, and is otherwise as the first
+pub record Begins (g empty : Gathered) : Type 0 where
+  pub names : empty.groups.names ≡ g.groups.names
+  pub limit : empty.groups.limit ≡ g.groups.limit
+  pub none : empty.groups.entries ≡ []
+  pub within : empty.over ≡ false
+
+-- no groups of the job's aggregates
+pub record IsEmptyFor (job : Job) (g : Gathered) : Type 0 where
+  pub takes : Takes g job
+  pub none : g.groups.entries ≡ []
+  pub within : g.over ≡ false

@@ -1,5 +1,5 @@
 -- What the groups of a query are made from.
-use Rattle.std.specs.Prelude.{◌≡◌, ℕ, ◌<◌, ◌≤◌, List, map, length, Option, None, Some}
+use Rattle.std.specs.Prelude.{◌≡◌, ℕ, ◌<◌, ◌≤◌, List, [], ◌∷◌, map, length, Option, None, Some}
 use Rattle.std.specs.List.Sorted.{IsPermutation}
 use Rattle.value_meaning.specs.Val.{Val, missing}
 use Rattle.tree_meaning.specs.declared.AggName.{AggName}
@@ -8,7 +8,8 @@ use Rattle.check_meaning.specs.Aggregates.{aggregates}
 use Rattle.eval_meaning.specs.Pair.{Pair}
 use Rattle.eval_meaning.specs.Passed.{passed}
 use Rattle.agg_meaning.specs.Keys.{distinct_keys}
-use Rattle.made_meaning.specs.OverGroups.{values_on}
+use Rattle.made_meaning.specs.OverGroups.{Group, groups, values_on}
+use Rattle.group_out.specs.Summaries.{AreSummaries}
 use Rattle.program_meaning.specs.Simulation.{operand_on}
 use Rattle.hash_agg.specs.Groups.{Keyed, group_of, aggregates_of}
 use Rattle.batch_groups.specs.Keyed.{count_keys}
@@ -50,3 +51,25 @@ pub record IsWithin (limit : ℕ) (names : List AggName) (rows : List Keyed) (ma
 abbrev pub FinishesAs : ℕ → List AggName → List Keyed → Option (List (List Val × List Val)) → Type 0
 FinishesAs limit names rows None = limit < count_keys rows
 FinishesAs limit names rows (Some made) = IsWithin limit names rows made
+
+-- how many distinct lists of keys the pairs that pass have
+abbrev pub count_groups : Query → List Val → ℕ
+count_groups q rows = length (distinct_keys (map (values_on q.keys) (passed q rows)))
+
+-- a row for each group of the pairs that pass, in some order, where these have no more lists of keys than the limit
+pub record AreAllGroups (q : Query) (limit : ℕ) (rows : List Val) (made : List (List Val × List Val)) : Type 0 where
+  pub few : count_groups q rows ≤ limit
+  pub members : List Group
+  pub permutes : IsPermutation (groups q.keys (passed q rows)) members
+  pub each : AreSummaries q members made
+
+-- the rows of the groups, and nothing where there are more lists of keys than the limit
+abbrev pub MakesGroups : Query → ℕ → List Val → Option (List (List Val × List Val)) → Type 0
+MakesGroups q limit rows None = limit < count_groups q rows
+MakesGroups q limit rows (Some made) = AreAllGroups q limit rows made
+
+-- without keys there is a group also where no row passed
+abbrev pub with_empty_row : List ℕ → List AggName → List (List Val × List Val) → List (List Val × List Val)
+with_empty_row [] names [] = ([], aggregates_of names []) ∷ []
+with_empty_row [] names (row ∷ rows) = row ∷ rows
+with_empty_row (register ∷ registers) names rows = rows

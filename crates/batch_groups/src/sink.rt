@@ -5,22 +5,30 @@ ghost use Rattle.value_meaning.specs.Val.{Val};
 ghost use Rattle.snel_values.specs.View.{views};
 ghost use Rattle.hash_agg.specs.Groups.{Keyed, GroupsStandFor};
 ghost use Rattle.hash_agg.specs.Items.{ShowsAll};
-ghost use Rattle.batch_groups.specs.Gathered.{StandFor, AreOf, Takes};
+ghost use Rattle.batch_groups.specs.Gathered.{Gathered, StandFor, AreOf, Grew, IsEmptyFor};
+ghost use Rattle.batch_groups.specs.OfQuery.{FinishesAs, MakesGroups, with_empty_row};
+ghost use Rattle.tree_meaning.specs.Tree.{Query};
+ghost use Rattle.check_meaning.specs.Aggregates.{is_grouped};
+ghost use Rattle.program_meaning.specs.Simulation.{Simulates};
+ghost use Rattle.block_lines.specs.RowLines.{kept_rows};
+ghost use Rattle.worker_merge.specs.Growing.{GrewSomehow};
 
+use crate::joining::join_groups;
 use crate::operands::see_operands;
 use agg_laws::Seen;
 use block_file::Block;
 use block_lines::{LineHeads, RowSink, values_of};
-use hash_agg::{GroupFault, Groups};
+use hash_agg::{GroupFault, GroupRows, Groups, empty_row};
 use lane_ssa::{EndAggs, Frame, Job};
 use snel_values::{OutOfMemory, Value};
 use std::alloc::Global;
 use std::hash::DefaultHasher;
 use std::marker::Model;
 use tree_meaning::AggName;
+use worker_merge::SharedSink;
 
 /// As many rows as a sink takes: 2^45. A query covers fewer.
-const MOST_ROWS: u64 = 35_184_372_088_832;
+pub(crate) const MOST_ROWS: u64 = 35_184_372_088_832;
 
 /// The groups of the rows that were taken, at most as many as a limit. Once there would be more, which it remembers, it adds
 /// nothing any more.
@@ -55,10 +63,8 @@ impl GroupSink {
         limit: u32,
         seed: DefaultHasher,
     ) -> Result<GroupSink, OutOfMemory>
-        ensures takes { IfOk result (λ s. Takes s job.now) }
+        ensures empty { IfOk result (λ s. IsEmptyFor job.now s) }
         ensures limit { IfOk result (λ s. s.groups.limit ≡ limit) }
-        ensures none { IfOk result (λ s. s.groups.entries ≡ []) }
-        ensures open { IfOk result (λ s. s.over ≡ false) }
     {
         let names = names_of(alloc, &job.ends().aggs)?;
         Ok(GroupSink {
@@ -68,6 +74,51 @@ impl GroupSink {
             over: false,
         })
     }
+
+    /// The rows of the groups, in some order, or nothing where there were more groups than the limit. Each row has the values of
+    /// a group's keys, and those of the aggregates over it. Without GROUP BY there is one group, also of no rows.
+    pub fn finish(self, alloc: Global, job: &Job) -> Result<Option<GroupRows>, OutOfMemory>
+        ensures { (q : Query) (empty : Gathered) (rows : List Val) → Simulates job.now q
+            → is_grouped q ≡ true → IsEmptyFor job.now empty
+            → GrewSomehow Grew empty self job.now (kept_rows job.now rows)
+            → IfOk result (λ made. MakesGroups q self.groups.limit rows made) }
+    {
+        match self.into_rows()? {
+            Some(rows) => {
+                let rows = or_empty_row(alloc, job, rows)?;
+                Ok(Some(rows))
+            }
+            None => Ok(None),
+        }
+    }
+
+    /// The row of each group, or nothing where there were more groups than the limit.
+    fn into_rows(self) -> Result<Option<GroupRows>, OutOfMemory>
+        ensures { (rows : List Keyed) → StandFor self.groups self.over rows → IfOk result
+            (λ made. FinishesAs self.groups.limit self.groups.names rows made) }
+    {
+        if self.over {
+            return Ok(None);
+        }
+        self.groups.know();
+        let rows = self.groups.finish()?;
+        Ok(Some(rows))
+    }
+}
+
+/// The rows, and where a job without keys has none, the row of no rows.
+fn or_empty_row(alloc: Global, job: &Job, rows: GroupRows) -> Result<GroupRows, OutOfMemory>
+    ensures { IfOk result (λ all. all
+        ≡ with_empty_row job.now.ends.groups (map (λ a. a.0) job.now.ends.aggs) rows) }
+{
+    let ends = job.ends();
+    let mut rows = rows;
+    if ends.groups.len() > 0 || rows.len() > 0 {
+        return Ok(rows);
+    }
+    let names = names_of(alloc, &ends.aggs)?;
+    rows.push(empty_row(alloc, names.as_slice())?)?;
+    Ok(rows)
 }
 
 /// The names of aggregates.
@@ -109,7 +160,13 @@ impl RowSink for GroupSink {
         see_operands(frame, &ends.aggs, lane, &mut self.shown)?;
         let keys = keys.as_slice();
         let shown = self.shown.as_slice();
-        add_row(&mut self.groups, &mut self.count, &mut self.over, keys, shown)
+        add_row(
+            &mut self.groups,
+            &mut self.count,
+            &mut self.over,
+            keys,
+            shown,
+        )
     }
 
     ghost grew_by_none = { λ s job. grew_by_none s job };
@@ -117,6 +174,46 @@ impl RowSink for GroupSink {
     ghost grew_by_both = { λ a b c job xs ys h k. grew_by_both a b c job xs ys h k };
 
     ghost takes_more = { λ a b job rows h k. takes_more a b job rows h k };
+}
+
+impl SharedSink for GroupSink {
+    ghost use Rattle.batch_groups.specs.Gathered.{Begins};
+    ghost use Rattle.batch_groups.specs.Growing.{fresh_takes, begins_still};
+
+    ghost begins = { λ s empty. Begins s empty };
+
+    fn fresh(&self, alloc: Global) -> Result<GroupSink, OutOfMemory> {
+        Ok(GroupSink {
+            groups: self.groups.fresh()?,
+            shown: Vec::new(alloc),
+            count: 0,
+            over: false,
+        })
+    }
+
+    fn join(&mut self, other: GroupSink) -> Result<(), OutOfMemory> {
+        if self.over {
+            return Ok(());
+        }
+        if other.over {
+            self.over = true;
+            return Ok(());
+        }
+        if other.count > MOST_ROWS - self.count {
+            return Err(OutOfMemory);
+        }
+        join_groups(
+            &mut self.groups,
+            &mut self.count,
+            &mut self.over,
+            other.groups,
+            other.count,
+        )
+    }
+
+    ghost fresh_takes = { λ s empty job h k. fresh_takes s empty job h k };
+
+    ghost begins_still = { λ a b empty job rows h k. begins_still a b empty job rows h k };
 }
 
 /// Adds a row to the group of its keys, or notes that there would be more groups than the limit.

@@ -146,6 +146,18 @@ impl Groups {
         })
     }
 
+    /// No groups, of the same aggregates and with the same limit.
+    pub fn fresh(&self) -> Result<Groups, OutOfMemory>
+        ensures { IfOk result (λ g. g ≡ record { names = self.now.names; limit = self.now.limit; entries = [] }) }
+    {
+        Groups::new(
+            self.alloc,
+            self.aggs.as_slice(),
+            self.limit,
+            self.index.seed(),
+        )
+    }
+
     /// Adds a row to the group of its key list: one item for each aggregate.
     pub fn add(&mut self, keys: &[Value], items: &[Seen]) -> Result<(), GroupFault>
         requires one_each { length items.now ≡ length self.old.names }

@@ -35,6 +35,11 @@ impl Index {
         }
     }
 
+    /// The hasher with which hashes begin.
+    pub fn seed(&self) -> DefaultHasher {
+        self.seed
+    }
+
     /// The place of the group with these keys, if there is one.
     pub fn find(&self, all: &[Group], keys: &[Value]) -> Option<usize>
         requires { Covers self.now (map entry_of all.now) }
