@@ -1,20 +1,17 @@
 -- The values of a row's sort keys, from the registers of its lane.
-use Rattle.std.proofs.Common.{◌≡◌, ℕ, ◌<◌, List, [], ◌∷◌, ◌++◌, map, length, drop, zero, suc, Option, Some, refl, sym, ap, subst, ◌∙◌, append_assoc}
+use Rattle.std.proofs.Common.{◌≡◌, ℕ, ◌<◌, List, [], ◌∷◌, ◌++◌, map, drop, suc, Option, Some, sym, ap, subst, ◌∙◌, append_assoc}
 use Rattle.std.specs.Prelude.{All, slice_get}
 use Rattle.value_meaning.specs.Val.{Val}
-use Rattle.block_meaning.specs.Tables.{Table}
 use Rattle.program_meaning.specs.Jobs.{Job}
 use Rattle.program_meaning.specs.Registers.{State, value_at, lane_of, after}
 use Rattle.block_lines.proofs.PairByPair.{drop_at}
-use Rattle.block_lines.specs.RowLines.{registers_on, line_of, keyed_line}
+use Rattle.block_lines.specs.RowLines.{registers_on, keyed_line}
 
--- the registers in the lane of a row
-pub keyed_there : (job : Job) (row : Val) (s : State) (o : Option Val) → o ≡ Some row → s ≡ after (lane_of o) job.program
-    → (keys : List Val) (line : List ℕ) → keys ≡ map (value_at s) job.ends.sorts → line ≡ line_of job row → (keys, line) ≡ keyed_line job row
-keyed_there job row s o e h keys line k l =
+-- the registers in the lane of a row show the values of its sort keys
+pub keys_there : (job : Job) (row : Val) (s : State) (o : Option Val) → o ≡ Some row → s ≡ after (lane_of o) job.program → map (value_at s) job.ends.sorts ≡ (keyed_line job row).0
+keys_there job row s o e h =
     let same : s ≡ registers_on job row = h ∙ ap (λ (p : Option Val). after (lane_of p) job.program) e in
-    let keys_are : keys ≡ map (value_at (registers_on job row)) job.ends.sorts = k ∙ ap (λ (t : State). map (value_at t) job.ends.sorts) same in
-    λ i. (keys_are i, l i)
+    ap (λ (t : State). map (value_at t) job.ends.sorts) same
 
 -- the values so far with those of the registers that are left are all of them
 pub value_made : (f : ℕ → Val) (registers : List ℕ) (at r : ℕ) → Some r ≡ slice_get registers at → (values next : List Val) (v : Val) → next ≡ values ++ v ∷ [] → v ≡ f r

@@ -16,13 +16,12 @@ ghost use Rattle.block_lines.specs.RowLines.{keyed_line, made_keyed};
 
 use crate::fault::ScanFault;
 use crate::heads::LineHeads;
-use crate::one_line::append_line;
+use crate::row_parts::{row_line, sort_keys};
 use crate::scanning::scan_rows;
 use crate::sink::RowSink;
-use crate::values::values_of;
 use block_file::Block;
 use lane_ssa::Frame;
-use snel_values::{Bytes, MadeRow, MadeRows, OutOfMemory};
+use snel_values::{MadeRow, MadeRows, OutOfMemory};
 use std::alloc::Global;
 use time_index::Entry;
 
@@ -102,9 +101,7 @@ fn keyed_row<'b>(
     ensures { (row : Val) → slice_get (rows_from first block.now.1) lane ≡ Some row
         → IfOk result (λ r. row_view r ≡ keyed_line frame.now.job row) }
 {
-    let sorts = &frame.job().ends().sorts;
-    let keys = values_of(alloc, frame, block.table(), sorts, lane)?;
-    let mut line = Bytes::new(alloc);
-    append_line(&mut line, heads, frame, block, first, lane)?;
+    let keys = sort_keys(alloc, frame, block, first, lane)?;
+    let line = row_line(alloc, heads, frame, block, first, lane)?;
     Ok(MadeRow { keys, line })
 }

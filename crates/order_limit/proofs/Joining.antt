@@ -8,7 +8,7 @@ use Rattle.std.proofs.Math.Nat.{lt_of_not-le}
 use Rattle.std.proofs.Math.Logic.{⊎_elim}
 use Rattle.std.proofs.lemmas.List.{length-map, map-append}
 use Rattle.std.proofs.lemmas.List.Sums.{sum_by-append, sum_by-cons}
-use Rattle.std.proofs.lemmas.List.Sorted.{IsPermutation-trans, IsPermutation-append_left, IsPermutation-append_right, sum_by-IsPermutation, length_permutation}
+use Rattle.std.proofs.lemmas.List.Sorted.{IsPermutation-sym, IsPermutation-trans, IsPermutation-append_left, IsPermutation-append_right, All-permutation, sum_by-IsPermutation, length_permutation}
 use Rattle.std.proofs.lemmas.List.Elements.{All-nil, All-cons, All-head, All-tail, All-append, All-weaker}
 use Rattle.value_meaning.specs.Val.{Val}
 use Rattle.snel_values.specs.declared.made.MadeRow.{MadeRow}
@@ -215,3 +215,13 @@ finished_cut falling most skip take_ items ordered out few small enough p up is 
       sorted = a.sorted;
       cut = is ∙ cut_rows row_view take_ skip ordered ∙ enough_is most skip take_ a.arrangement (map row_view ordered) first (omega (arith, small, same, as_many)) enough;
     }
+
+-- the order of the rows is free
+pub stands_permuted : (t : Top) (rows others : List Row) → IsPermutation rows others → StandsFor t rows → StandsFor t others
+stands_permuted t rows others p h = record {
+  keyed = All-permutation (λ (r : Row). length r.0 ≡ length t.falling) rows others p h.keyed;
+  dropped = h.dropped;
+  permutes = IsPermutation-trans others rows (t.held ++ h.dropped) (IsPermutation-sym rows others p) h.permutes;
+  room = h.room;
+  behind = h.behind;
+}

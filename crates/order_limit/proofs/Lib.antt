@@ -4,4 +4,4 @@ mod Heaps
 mod Sorting
 pub mod Standing
 pub mod Answered
-mod Joining
+pub mod Joining
