@@ -16,5 +16,5 @@ pub use collector::BatchCollector;
 pub use cut::Cut;
 pub use fault::{BatchFault, ScanFault};
 pub use put::put_rows;
-pub use scan::{Done, scan_all};
+pub use scan::{Done, name_bad, scan_all};
 pub use scanner::BatchScanner;

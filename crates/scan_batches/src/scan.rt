@@ -136,7 +136,7 @@ fn next_batch<S: BatchScanner, F: Files>(
 }
 
 /// Names the block with this number.
-pub(crate) fn name_bad(blocks: &[Stored], number: usize) -> ScanFault
+pub fn name_bad(blocks: &[Stored], number: usize) -> ScanFault
     requires { number < length blocks.now }
     ensures { (h : Held) → slice_get blocks.now number ≡ Some h
         → result ≡ ScanFault.Damaged h.place.file h.place.block }
