@@ -3,4 +3,5 @@ pub mod Rooms
 pub mod Taking
 pub mod Merged
 pub mod Summing
+pub mod Showing
 pub mod Summaries

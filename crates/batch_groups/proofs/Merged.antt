@@ -10,7 +10,8 @@ use Rattle.hash_agg.specs.Adds.{Joins}
 use Rattle.hash_agg.proofs.Standing.{joining}
 use Rattle.worker_merge.specs.Growing.{GrewSomehow}
 use Rattle.batch_groups.specs.Keyed.{keyed_row, count_keys}
-use Rattle.batch_groups.specs.Gathered.{Gathered, StandFor, AreOf, Grew, Begins}
+use Rattle.batch_groups.specs.Gathered.{Gathered, StandFor, AreOf, IsPrintableKeyed, Grew, Begins}
+use Rattle.std.proofs.lemmas.List.Elements.{All-append}
 use Rattle.batch_groups.proofs.Counting.{count_behind}
 use Rattle.batch_groups.proofs.Taking.{over_takes, on_ok_then, on_ok_all}
 
@@ -24,6 +25,7 @@ of_both old others new count more h k few names joins =
       rows = h.rows ++ k.rows;
       short = omega arith;
       stand = joining old others new h.rows k.rows (sym names) joins h.stand k.stand;
+      printable = All-append IsPrintableKeyed h.rows k.rows h.printable k.printable;
     }
 
 -- nothing stands for no rows

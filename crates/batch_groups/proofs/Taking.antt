@@ -1,6 +1,6 @@
 -- A row that is taken.
 use Rattle.std.proofs.Common.{◌≡◌, ℕ, zero, suc, ◌+◌, ◌<◌, ◌≤◌, List, [], ◌∷◌, ◌++◌, length, map, take, Bool, true, false, Option, None, Some, refl, sym, ap, subst, ◌∙◌, arith, length-append, add-one}
-use Rattle.std.specs.Prelude.{slice_get, OnOk, Result, Ok, Err}
+use Rattle.std.specs.Prelude.{slice_get, All, OnOk, Result, Ok, Err}
 use Rattle.value_meaning.specs.Val.{Val}
 use Rattle.agg_laws.specs.declared.seen.Seen.{Seen}
 use Rattle.agg_laws.specs.Shows.{Shows}
@@ -15,7 +15,9 @@ use Rattle.program_meaning.specs.Registers.{State, value_at, lane_of, after}
 use Rattle.program_meaning.specs.Jobs.{Job}
 use Rattle.block_lines.specs.RowLines.{registers_on}
 use Rattle.batch_groups.specs.Keyed.{operand_at, keyed_row, count_keys}
-use Rattle.batch_groups.specs.Gathered.{Gathered, StandFor, AreOf, Grew}
+use Rattle.batch_groups.specs.Gathered.{Gathered, StandFor, AreOf, IsPrintableKeyed, Grew}
+use Rattle.std.proofs.lemmas.List.Elements.{All-append, All-cons, All-nil}
+use Rattle.group_out.specs.Summaries.{IsPrintable}
 use Rattle.batch_groups.proofs.Counting.{count_before}
 
 pub shows_more : (items : List Seen) (vs : List Val) (x : Seen) (v : Val) → ShowsAll items vs → Shows x v → ShowsAll (items ++ x ∷ []) (vs ++ v ∷ [])
@@ -40,15 +42,18 @@ taken {A = A} f xs i x h = on xs i h ∙ ap (λ n. take n (map f xs)) (sym (add-
     on (y ∷ ys) (suc j) e = ap (λ l. f y ∷ l) (on ys j e)
 
 pub of_one_more : (old new : Held) (count : ℕ) (keys : List Val) (items : List Seen) (operands : List Val) → AreOf old count → count < 35_184_372_088_832 → length items ≡ length old.names → ShowsAll items operands
-    → Joins (only_at keys (alone_all old.names items)) old new → AreOf new (count + 1)
-of_one_more old new count keys items operands h below long shows joins =
-    let l = length-append h.rows ((keys, operands) ∷ []) in
+    → Joins (only_at keys (alone_all old.names items)) old new → All IsPrintable keys → All IsPrintable operands → AreOf new (count + 1)
+of_one_more old new count keys items operands h below long shows joins k o =
+    let r : Keyed = (keys, operands) in
+    let l = length-append h.rows (r ∷ []) in
     let s = h.short in
+    let own : IsPrintableKeyed r = record { keys = k; operands = o } in
     record {
       few = omega arith;
-      rows = h.rows ++ (keys, operands) ∷ [];
+      rows = h.rows ++ r ∷ [];
       short = omega arith;
       stand = adding old new keys items operands h.rows long shows joins h.stand;
+      printable = All-append IsPrintableKeyed h.rows (r ∷ []) h.printable (All-cons IsPrintableKeyed r [] own (All-nil IsPrintableKeyed));
     }
 
 -- as many are shown as there are aggregates

@@ -1,6 +1,6 @@
 //! The groups of the rows that pass.
 
-ghost use Rattle.std.specs.Prelude.{◌≡◌, ◌≤◌, ◌++◌, ◌∷◌, [], List, true, false, map, length, OnOk, IfOk};
+ghost use Rattle.std.specs.Prelude.{◌≡◌, ◌≤◌, ◌++◌, ◌∷◌, [], List, true, false, map, length, All, OnOk, IfOk, IfSome};
 ghost use Rattle.value_meaning.specs.Val.{Val};
 ghost use Rattle.snel_values.specs.View.{views};
 ghost use Rattle.hash_agg.specs.Groups.{Keyed, GroupsStandFor};
@@ -12,6 +12,7 @@ ghost use Rattle.check_meaning.specs.Aggregates.{is_grouped};
 ghost use Rattle.program_meaning.specs.Simulation.{Simulates};
 ghost use Rattle.block_lines.specs.RowLines.{kept_rows};
 ghost use Rattle.worker_merge.specs.Growing.{GrewSomehow};
+ghost use Rattle.group_out.specs.Summaries.{IsPrintable, IsPrintableRow};
 
 use crate::joining::join_groups;
 use crate::operands::see_operands;
@@ -78,10 +79,11 @@ impl GroupSink {
     /// The rows of the groups, in some order, or nothing where there were more groups than the limit. Each row has the values of
     /// a group's keys, and those of the aggregates over it. Without GROUP BY there is one group, also of no rows.
     pub fn finish(self, alloc: Global, job: &Job) -> Result<Option<GroupRows>, OutOfMemory>
-        ensures { (q : Query) (empty : Gathered) (rows : List Val) → Simulates job.now q
+        ensures rows { (q : Query) (empty : Gathered) (rows : List Val) → Simulates job.now q
             → is_grouped q ≡ true → IsEmptyFor job.now empty
             → GrewSomehow Grew empty self job.now (kept_rows job.now rows)
             → IfOk result (λ made. MakesGroups q self.groups.limit rows made) }
+        ensures printable { IfOk result (λ made. IfSome made (λ rows. All IsPrintableRow rows)) }
     {
         match self.into_rows()? {
             Some(rows) => {
@@ -94,8 +96,9 @@ impl GroupSink {
 
     /// The row of each group, or nothing where there were more groups than the limit.
     fn into_rows(self) -> Result<Option<GroupRows>, OutOfMemory>
-        ensures { (rows : List Keyed) → StandFor self.groups self.over rows → IfOk result
+        ensures rows { (rows : List Keyed) → StandFor self.groups self.over rows → IfOk result
             (λ made. FinishesAs self.groups.limit self.groups.names rows made) }
+        ensures printable { IfOk result (λ made. IfSome made (λ rows. All IsPrintableRow rows)) }
     {
         if self.over {
             return Ok(None);
@@ -108,8 +111,9 @@ impl GroupSink {
 
 /// The rows, and where a job without keys has none, the row of no rows.
 fn or_empty_row(alloc: Global, job: &Job, rows: GroupRows) -> Result<GroupRows, OutOfMemory>
-    ensures { IfOk result (λ all. all
+    ensures rows { IfOk result (λ all. all
         ≡ with_empty_row job.now.ends.groups (map (λ a. a.0) job.now.ends.aggs) rows) }
+    ensures printable { All IsPrintableRow rows → IfOk result (λ all. All IsPrintableRow all) }
 {
     let ends = job.ends();
     let mut rows = rows;
@@ -225,7 +229,8 @@ fn add_row(
     shown: &[Seen],
 ) -> Result<(), OutOfMemory>
     requires one_each { length shown.now ≡ length groups.old.names }
-    requires shown { (operands : List Val) × ShowsAll shown.now operands }
+    requires shown { (operands : List Val) × ShowsAll shown.now operands × All IsPrintable operands }
+    requires printable { All IsPrintable (views keys.now) }
     requires few { AreOf groups.old count.old }
     requires open { over.old ≡ false }
     ensures few { AreOf groups.new count.new }

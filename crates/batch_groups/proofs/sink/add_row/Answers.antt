@@ -15,7 +15,7 @@ add-requires-clause-room c = room_to_add c.args.groups.now c.args.count.now c.re
 
 pub returns-in-Ok-clause-few : goal.returns-in-Ok-clause-few
 returns-in-Ok-clause-few c =
-    of_one_more c.args.groups.now c.add.new.self c.args.count.now (views c.args.keys.now) c.args.shown.now c.requires.shown.0 c.requires.few (omega arith) c.requires.one_each c.requires.shown.1 c.in-Ok.ensures.ok
+    of_one_more c.args.groups.now c.add.new.self c.args.count.now (views c.args.keys.now) c.args.shown.now c.requires.shown.0 c.requires.few (omega arith) c.requires.one_each c.requires.shown.1 c.in-Ok.ensures.ok c.requires.printable c.requires.shown.2
 
 pub returns-in-Ok-clause-stand : goal.returns-in-Ok-clause-stand
 returns-in-Ok-clause-stand c operands rows shows stand =

@@ -9,6 +9,9 @@ use Rattle.hash_agg.specs.Groups.{GroupsStandFor}
 use Rattle.hash_agg.specs.Items.{ShowsAll}
 use Rattle.batch_groups.specs.Keyed.{operand_at}
 use Rattle.batch_groups.specs.Gathered.{Gathered}
+use Rattle.std.specs.Prelude.{All}
+use Rattle.group_out.specs.Summaries.{IsPrintable}
+use Rattle.batch_groups.proofs.Showing.{keys_shown, operands_shown}
 use Rattle.batch_groups.proofs.Taking.{one_each, over_takes, keyed_there, took}
 use Rattle.batch_groups.proofs.sink.GroupSinkRowSink.take.Goals as goal
 
@@ -22,6 +25,20 @@ add_row-requires-clause-one_each c =
     ap length c.as_slice-shown.ensures.value
     ∙ one_each c.see_operands.new.shown.items state c.ends-ends.result.now.aggs c.args.frame.now.job.ends.aggs c.self.inside.groups.names
     (c.in_ok-see_operands.ensures c.args.block.now.0 c.requires.ran.legal) aggs (ap (λ (g : Gathered). g.groups.names) c.self.view_is ∙ c.requires.takes)
+
+pub add_row-requires-clause-shown : goal.add_row-requires-clause-shown
+add_row-requires-clause-shown c =
+    let state = state_at c.args.block.now.0 c.args.frame.now c.args.lane in
+    let operands = map (operand_at state) c.ends-ends.result.now.aggs in
+    (operands, subst (λ l. ShowsAll l operands) (sym c.as_slice-shown.ensures.value) (c.in_ok-see_operands.ensures c.args.block.now.0 c.requires.ran.legal), operands_shown c.args.block.now.0 c.args.lane c.requires.lane c.args.frame.now c.requires.ran.legal c.ends-ends.result.now.aggs)
+
+pub add_row-requires-clause-printable : goal.add_row-requires-clause-printable
+add_row-requires-clause-printable c =
+    let state = state_at c.args.block.now.0 c.args.frame.now c.args.lane in
+    let keys = c.as_slice-keys.ensures
+    ∙ c.in_ok-keys.ensures
+    ∙ ap (λ (t : Table). map (value_at (state_at t c.args.frame.now c.args.lane)) c.ends-ends.result.now.groups) c.table.ensures in
+    subst (All IsPrintable) (sym keys) (keys_shown c.args.block.now.0 c.args.lane c.requires.lane c.args.frame.now c.requires.ran.legal c.ends-ends.result.now.groups)
 
 pub returns : goal.returns
 returns c row e =
