@@ -6,3 +6,5 @@ pub mod GroupValues
 pub mod Printable
 pub mod PrintableValues
 pub mod OutputLines
+pub mod FormedParts
+pub mod PrintableGroups
