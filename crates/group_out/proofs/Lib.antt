@@ -6,5 +6,3 @@ pub mod GroupValues
 pub mod Printable
 pub mod PrintableValues
 pub mod OutputLines
-pub mod FormedParts
-pub mod PrintableGroups

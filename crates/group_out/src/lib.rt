@@ -6,16 +6,11 @@ mod lines;
 mod rows;
 mod values;
 
-ghost use Rattle.group_out.specs.Laws.{OrderOfGroupsIsFree, GroupRowsArePrintable};
+ghost use Rattle.group_out.specs.Laws.{OrderOfGroupsIsFree};
 
 pub use rows::{made_of_groups, out_of};
 
 /// Groups in another order make the same rows in another order.
 pub fn order_of_groups_is_free()
     ensures { OrderOfGroupsIsFree }
-{}
-
-/// A line can show the values of the rows of groups, where the groups are of rows that may stand in blocks.
-pub fn group_rows_are_printable()
-    ensures { GroupRowsArePrintable }
 {}
