@@ -7,7 +7,7 @@ ghost use Rattle.snel_values.specs.Made.{row_view as made_view};
 ghost use Rattle.hash_agg.specs.Finished.{row_view};
 ghost use Rattle.group_out.specs.Summaries.{Summarizes, AreSummaries, IsPrintableRow};
 ghost use Rattle.group_out.specs.Rows.{row_of_group, rows_of_groups};
-ghost use Rattle.group_out.specs.Values.{made_of_row, listed};
+ghost use Rattle.group_out.specs.Values.{made_of_row, made_of_rows, listed};
 
 use crate::lines::line_over;
 use crate::values::{is_kept, sort_keys};
@@ -23,8 +23,9 @@ pub fn made_of_groups(
     rows: &GroupRows,
 ) -> Result<MadeRows, OutOfMemory>
     requires { All IsPrintableRow rows.now }
-    ensures { (groups : List Group) → AreSummaries checked.now groups rows.now
+    ensures of_groups { (groups : List Group) → AreSummaries checked.now groups rows.now
         → IfOk result (λ made. made ≡ rows_of_groups checked.now groups) }
+    ensures of_rows { IfOk result (λ made. made ≡ made_of_rows checked.now rows.now) }
 {
     let mut made = MadeRows::new(alloc);
     for at in 0..rows.len() {

@@ -14,7 +14,11 @@ pub loop-at-preserved : goal.loop-at-preserved
 loop-at-preserved c =
     made_more c.args.checked.now c.args.rows.now c.loop-at.at (row_view c.in-Some.row.now) _ _ (sym c.in-Some.ensures) c.in_ok-add_made.ensures c.loop-at.invariant
 
-pub returns : goal.returns
-returns c groups all =
+pub returns-clause-of_rows : goal.returns-clause-of_rows
+returns-clause-of_rows c =
+    all_rows c.args.checked.now c.args.rows.now c.loop-at.at _ (omega (arith, c.loop-at-test.false, c.len-at-end.ensures)) c.loop-at.invariant
+
+pub returns-clause-of_groups : goal.returns-clause-of_groups
+returns-clause-of_groups c groups all =
     all_rows c.args.checked.now c.args.rows.now c.loop-at.at _ (omega (arith, c.loop-at-test.false, c.len-at-end.ensures)) c.loop-at.invariant
     ∙ all_made c.args.checked.now groups c.args.rows.now all

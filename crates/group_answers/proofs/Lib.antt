@@ -1,0 +1,2 @@
+pub mod EachFlag
+pub mod RowsOfGroups
