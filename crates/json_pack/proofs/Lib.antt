@@ -1,5 +1,5 @@
-pub mod FirstLine
-pub mod LineByLine
 pub mod Consumed
-pub mod PackedLines
+pub mod Reading
+pub mod Lines
 pub mod Making
+pub mod Filling

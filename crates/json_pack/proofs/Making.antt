@@ -1,5 +1,5 @@
 -- A file that is made, and what is added to it.
-use Rattle.std.proofs.Common.{◌≡◌, ◌⊎◌, inl, inr, ◌↔◌, ℕ, ◌-◌, List, [], ◌++◌, length, take, Option, Some, None, Ok, Err, Result, refl, sym, ap, subst, ◌∙◌, arith, append-nil, Bool, true, false, bytes_eq}
+use Rattle.std.proofs.Common.{◌≡◌, ◌⊎◌, inl, inr, ◌↔◌, ℕ, ◌-◌, List, [], ◌++◌, length, take, Option, Some, None, Ok, Err, Result, refl, sym, ap, subst, ◌∙◌, arith, append-nil, Bool, true, false, bytes_eq, ◌∷◌, ◌+◌, ◌≤◌, ◌^◌, ◌==◌, min, zero, suc, append_assoc}
 use Rattle.std.proofs.Math.Path.{fun_ext}
 use Rattle.std.specs.Prelude.{OnOk, OnErr, IfErr, IfSome, IsSome, IsErrOf}
 use Rattle.std.specs.Option.{ForSome, option_map}
@@ -9,10 +9,23 @@ use Rattle.std.proofs.lemmas.Slice.Eq.{bytes_eq-Decides}
 use Rattle.write_meaning.proofs.Paying.{itself}
 use Rattle.snel_device.specs.Contents.{Contents, with_file, with_piece, Sets, Extends}
 use Rattle.pack_meaning.specs.Lines.{Settings}
-use Rattle.pack_meaning.specs.Packing.{Refusal}
+use Rattle.pack_meaning.specs.Packing.{Refusal, Sum, packed, refusal, refusal_from, sum_of}
+use Rattle.pack_meaning.specs.PackedFiles.{file_of, field_name}
+use Rattle.pack_meaning.specs.Cuts.{cut}
 use Rattle.pack_meaning.specs.Splitting.{lines_of}
 use Rattle.json_pack.specs.declared.sums.PackFault.{PackFault}
-use Rattle.json_pack.specs.Packs.{refusal_in, file_for, HasFrontOf, LeavesFront}
+use Rattle.json_pack.specs.declared.packer.PackedRows.{PackedRows}
+use Rattle.json_pack.specs.declared.packer.LinePacker.{LinePacker}
+use Rattle.json_pack.specs.declared.sums.PackSum.{PackSum}
+use Rattle.pack_blocks.specs.declared.finishing.Finished.{Finished}
+use Rattle.pack_blocks.specs.Writing.{IsFinished, Finishes}
+use Rattle.pack_blocks.proofs.Writing.{given_front}
+use Rattle.pack_meaning.proofs.Files.{files_hold}
+use Rattle.std.proofs.lemmas.Bool.{eqb-true}
+use Rattle.std.proofs.lemmas.List.{length-append}
+use Rattle.json_pack.specs.Reading.{IsAllRead}
+use Rattle.json_pack.specs.Packing.{HasRead, CanPack, IsUpTo, IsToldUpTo, IsPacking, GoesOn, IsFront, StopsHere, StopsAt, EndsFile, BreaksFile, SumsUp, ExtendsFront, IsFilling}
+use Rattle.json_pack.specs.Packs.{refusal_in, file_for, HoldsLines, HasFrontOf, LeavesFront, sum_view, counted}
 
 grown : (name piece : List ℕ) (f : Contents) → with_piece name piece (with_file name [] f) ≡ with_file name piece f
 grown name piece f = fun_ext (λ q. at q (bytes_eq name q) refl)
@@ -65,21 +78,91 @@ pub sets_all : {T E : Type 0} (r : Result T E) (left : Option (List ℕ)) (old m
 sets_all (Ok v) left old mid new name f s h = λ b is. compose old mid new name (f b) s (h b is)
 sets_all (Err e) left old mid new name f s h = h
 
-pub front_all : {T E : Type 0} (r : Result T E) (left : Option (List ℕ)) (old mid new : Option Contents) (name : List ℕ) (s : Settings) → Sets old mid name []
-    → OnErr r (ForSome left (λ b. (n : ℕ) × Extends mid new name (take n (file_for s (lines_of b))))) → OnErr r (ForSome left (λ b. LeavesFront s (lines_of b) old new name))
-front_all (Ok v) left old mid new name s e h = h
-front_all (Err x) left old mid new name s e h = λ b is.
-    let found = h b is in
-    let ls = lines_of b in
-    let all : take (length ls) ls ≡ ls = take_all (length ls) ls (omega arith) in
-    inr (length ls, (found.0, subst (λ ks. Sets old new name (take found.0 (file_for s ks))) (sym all) (compose old mid new name _ e found.1)))
+-- no bytes
+pub no_bytes : (xs : List ℕ) (t : Bool) → t ≡ (length xs == 0) → t ≡ true → xs ≡ []
+no_bytes [] t e h = refl
+no_bytes (x ∷ xs) t e h = let none : length (x ∷ xs) ≡ 0 = eqb-true (length (x ∷ xs)) 0 (sym e ∙ h) in absurd (omega (arith, none))
 
-pub before_all : {T : Type 0} (r : Result T PackFault) (left : Option (List ℕ)) (old mid new : Option Contents) (name : List ℕ) (s : Settings) → Sets old mid name []
-    → IfErr r (λ fault. IfSome (refusal_in fault) (λ x. new ≡ mid))
-    → IfErr r (λ fault. IfSome (refusal_in fault) (λ x. ForSome left (λ b. HasFrontOf s (take (x.number - 1) (lines_of b)) old new name)))
-before_all (Ok v) left old mid new name s e h = h
-before_all (Err fault) left old mid new name s e h = at (refusal_in fault) h
+-- one piece after the other
+extended : (name a b : List ℕ) (f : Contents) → with_piece name b (with_piece name a f) ≡ with_piece name (a ++ b) f
+extended name a b f = fun_ext (λ q. at q (bytes_eq name q) refl)
   where
-    at : (o : Option Refusal) → IfSome o (λ x. new ≡ mid) → IfSome o (λ x. ForSome left (λ b. HasFrontOf s (take (x.number - 1) (lines_of b)) old new name))
-    at None k = k
-    at (Some x) k = λ b is. (0, k ∙ e)
+    both : (o : Option (List ℕ)) → option_map (λ x. x ++ b) (option_map (λ x. x ++ a) o) ≡ option_map (λ x. x ++ (a ++ b)) o
+    both None = refl
+    both (Some x) = ap (λ c. Some c) (append_assoc x a b)
+
+    at : (q : List ℕ) (t : Bool) → bytes_eq name q ≡ t → with_piece name b (with_piece name a f) q ≡ with_piece name (a ++ b) f q
+    at q true e = rw (e, itself name) (both (f name))
+    at q false e = rw e refl
+
+pub extends_more : (old mid new : Option Contents) (name a b : List ℕ) → Extends old mid name a → Extends mid new name b → Extends old new name (a ++ b)
+extends_more None mid new name a b e h = h ∙ ap (option_map (with_piece name b)) e
+extends_more (Some f) mid new name a b e h = h ∙ ap (option_map (with_piece name b)) e ∙ ap (λ g. Some g) (extended name a b f)
+
+pub extends_same : (old new : Option Contents) (name a b : List ℕ) → a ≡ b → Extends old new name a → Extends old new name b
+extends_same old new name a b e h = subst (λ p. Extends old new name p) e h
+
+-- the file is still there
+still : (name piece : List ℕ) (f : Contents) → IsSome (f name) → IsSome (with_piece name piece f name)
+still name piece f h = rw (itself name) (some (f name) h)
+  where
+    some : (o : Option (List ℕ)) → IsSome o → IsSome (option_map (λ x. x ++ piece) o)
+    some None h = cc
+    some (Some x) h = refl
+
+pub still_there : (old new : Option Contents) (name piece : List ℕ) → ForSome old (λ f. IsSome (f name)) → Extends old new name piece → ForSome new (λ f. IsSome (f name))
+still_there None new name piece h e = λ f is. absurd (none_some (sym e ∙ is))
+  where
+    none_some : {f : Contents} → None ≡ Some f → ⊥
+    none_some e = cc
+still_there (Some g) new name piece h e = λ f is.
+    let same : Some (with_piece name piece g) ≡ Some f = sym e ∙ is in
+    let found : with_piece name piece g ≡ f = cc in
+    subst (λ (k : Contents). IsSome (k name)) found (still name piece g (h g refl))
+
+-- fronts
+pub front_of_front : (n : ℕ) (a b : List ℕ) → IsFront (a ++ b) (a ++ b) → IsFront (a ++ take n b) (a ++ b)
+front_of_front n [] b h = (n, refl)
+front_of_front n (x ∷ a) b h = let r = front_of_front n a b (whole (a ++ b)) in (suc r.0, ap (λ l. x ∷ l) r.1)
+  where
+    whole : (xs : List ℕ) → IsFront xs xs
+    whole xs = (length xs, sym (take_all (length xs) xs (omega arith)))
+
+pub whole_front : (xs : List ℕ) → IsFront xs xs
+whole_front xs = (length xs, sym (take_all (length xs) xs (omega arith)))
+
+take_twice : (m n : ℕ) (xs : List ℕ) → take m (take n xs) ≡ take (min m n) xs
+take_twice zero n xs = let e : min 0 n ≡ 0 = omega arith in rw e refl
+take_twice (suc m) zero xs = let e : min (suc m) 0 ≡ 0 = omega arith in rw e refl
+take_twice (suc m) (suc n) [] = let e : min (suc m) (suc n) ≡ suc (min m n) = omega arith in rw e refl
+take_twice (suc m) (suc n) (x ∷ xs) = let e : min (suc m) (suc n) ≡ suc (min m n) = omega arith in rw e (ap (λ l. x ∷ l) (take_twice m n xs))
+
+pub front_trans : (a b c : List ℕ) → IsFront a b → IsFront b c → IsFront a c
+front_trans a b c f g = (min f.0 g.0, f.1 ∙ ap (take f.0) g.1 ∙ take_twice f.0 g.0 c)
+
+-- what was given away is a front of the file of the lines
+pub read_front : (s : Settings) (before : List (List ℕ)) (given : List ℕ) (r : PackedRows) → HasRead s before given r → IsFront given (file_for s before)
+read_front s before given r k = (length given, sym (given_front s.time_field s.most (packed s before) given r.writer k.writer))
+
+-- the end of the file
+pub ends_file : (s : Settings) (r : PackedRows) (last : Finished) (old new : Option Contents) (name piece : List ℕ) → Finishes s.time_field r.writer last → piece ≡ last.bytes → Extends old new name piece → EndsFile s r old new name
+ends_file s r last old new name piece f same e before given k =
+    (piece, e, ap (λ p. given ++ p) same ∙ (f s.most (packed s before) given k.writer).file)
+
+pub breaks_none : (s : Settings) (r : PackedRows) (told : Option Contents) (name : List ℕ) → BreaksFile s r told told name
+breaks_none s r told name before given k = ([], extends_none told name, rw (append-nil given) (read_front s before given r k))
+
+pub breaks_file : (s : Settings) (r : PackedRows) (last : Finished) (old new : Option Contents) (name piece : List ℕ) → Finishes s.time_field r.writer last → piece ≡ last.bytes → (n : ℕ) × Extends old new name (take n piece) → BreaksFile s r old new name
+breaks_file s r last old new name piece f same cut before given k =
+    let whole = ap (λ p. given ++ p) same ∙ (f s.most (packed s before) given k.writer).file in
+    (take cut.0 piece, cut.1, subst (λ w. IsFront (given ++ take cut.0 piece) w) whole (front_of_front cut.0 given piece (whole_front (given ++ piece))))
+
+same_sum : (n n' b b' d d' l l' : ℕ) → n ≡ n' → b ≡ b' → d ≡ d' → l ≡ l' → (let x : Sum = record { rows = n; blocks = b; dropped = d; bytes = l } in let y : Sum = record { rows = n'; blocks = b'; dropped = d'; bytes = l' } in x ≡ y)
+same_sum n n' b b' d d' l l' p q r t = rw (p, q, r, t) refl
+
+pub sums_up : (s : Settings) (r : PackedRows) (last : Finished) (sum : PackSum) → Finishes s.time_field r.writer last → sum.rows ≡ last.rows → sum.blocks ≡ last.blocks → sum.dropped ≡ r.dropped → sum.bytes ≡ last.length
+    → SumsUp s r (sum_view sum)
+unfolding sum_of
+sums_up s r last sum f n b d l before given k =
+    let h = f s.most (packed s before) given k.writer in
+    same_sum _ _ _ _ _ _ _ _ (n ∙ h.rows) (b ∙ h.blocks) (d ∙ k.dropped) (l ∙ h.length)

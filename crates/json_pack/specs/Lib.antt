@@ -1,3 +1,3 @@
 pub mod Packs
-pub mod FirstLine
 pub mod Reading
+pub mod Packing

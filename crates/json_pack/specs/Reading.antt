@@ -1,46 +1,46 @@
--- Rows of lines, so far.
-use Rattle.std.specs.Prelude.{◌≡◌, ℕ, ◌-◌, ◌^◌, ◌≤◌, min, List, [], ◌∷◌, ◌++◌, length, Option, Some, None}
-use Rattle.json_pack.specs.declared.reading.ReadRows.{ReadRows}
-use Rattle.json_pack.specs.declared.reading.RowsFault.{RowsFault}
-use Rattle.json_pack.specs.declared.reading.RowsFault.TheVariants.{Refused, OutOfMemory}
-use Rattle.snel_values.specs.View.{views}
-use Rattle.value_meaning.specs.Val.{Val, vals}
-use Rattle.value_meaning.specs.Sound.{AreSound}
-use Rattle.file_meaning.specs.declared.TheConstants.{MOST_BLOCKS}
-use Rattle.write_meaning.specs.Standing.{IsWritableRow, AreWritableRows}
-use Rattle.pack_meaning.specs.Splitting.{content}
-use Rattle.pack_meaning.specs.Lines.{Settings, row, line_of}
-use Rattle.pack_meaning.specs.Cuts.{cut, EachFits}
-use Rattle.pack_meaning.specs.Packing.{Refusal, packed, dropped_from, reason_of}
-use Rattle.json_rows.specs.LineViews.{counted}
-use Rattle.pack_blocks.specs.Cutting.{Cuts}
+-- Lines of an input, one after the other.
+use Rattle.std.specs.Prelude.{◌≡◌, ◌⊎◌, ℕ, suc, ◌-◌, ◌<◌, ◌≤◌, min, Bool, true, false, List, [], ◌∷◌, ◌++◌, length, take, drop, Option, Some, None, ⊤}
+use Rattle.std.specs.Option.{option_map}
+use Rattle.pack_meaning.specs.declared.TheConstants.{MOST_LINE_BYTES}
+use Rattle.pack_meaning.specs.Splitting.{line_end, lines_of, content, HasNoEnd}
+use Rattle.json_pack.specs.declared.reader.LineReader.{LineReader}
 
--- The rows are those of these lines, which may be packed.
-pub record HasRead (s : Settings) (before : List (List ℕ)) (r : ReadRows) : Type 0 where
-  pub rows : views r.rows.items ≡ packed s before
-  pub dropped : r.dropped ≡ min (dropped_from s before) (2 ^ 64 - 1)
-  pub cuts : Cuts s.most (packed s before) r.cutter
-  pub sound : AreSound (vals (packed s before))
-  pub writable : AreWritableRows (packed s before)
-  pub fit : EachFits s.most (packed s before)
-  pub few : length (cut s.most (packed s before)) ≤ MOST_BLOCKS
+-- the bytes of the piece that weren't looked at yet
+abbrev pub unread : LineReader → List ℕ
+unread r = take (r.until - r.from) (drop r.from r.piece.items)
 
--- the lines are one more now, which isn't refused
-pub record Goes (s : Settings) (before : List (List ℕ)) (line : List ℕ) (r : ReadRows) : Type 0 where
-  pub read : HasRead s (before ++ line ∷ []) r
-  pub accepted : reason_of s (packed s before) (line_of s (content line)) ≡ None
+pub record IsReady (r : LineReader) : Type 0 where
+  pub ordered : r.from ≤ r.until
+  pub within : r.until ≤ length r.piece.items
+  pub some : 1 ≤ length r.piece.items
 
--- one more line was read, which stands here without the byte that ends it
-abbrev pub AddsLine : Settings → List ℕ → ReadRows → ReadRows → Type 0
-AddsLine s text old new = (before : List (List ℕ)) (line : List ℕ) → content line ≡ text → HasRead s before old → Goes s before line new
+-- what follows the bytes that were looked at, where the input tells what is left
+abbrev pub ahead : LineReader → Option (List ℕ) → Option (List ℕ)
+ahead r left = option_map (λ bytes. unread r ++ bytes) left
 
--- one more line was read, which comes to this row
-abbrev pub AddsRow : Val → ℕ → ReadRows → ReadRows → Type 0
-AddsRow v n old new =
-    (s : Settings) (before : List (List ℕ)) (line : List ℕ) → HasRead s before old → counted (line_of s (content line)) ≡ row v n → IsWritableRow v
-    → Goes s before line new
+-- What stands before the first line end, where there is one, or all was added to the line.
+abbrev pub TakesFront : Bool → List ℕ → List ℕ → List ℕ → List ℕ → Type 0
+TakesFront true old new line longer = (part : List ℕ) × HasNoEnd part × (longer ≡ line ++ part) × (old ≡ part ++ line_end ∷ new)
+TakesFront false old new line longer = (part : List ℕ) × HasNoEnd part × (longer ≡ line ++ part) × (old ≡ part) × (new ≡ [])
 
--- the line that is refused
-abbrev pub refusal_in : RowsFault → Option Refusal
-refusal_in (Refused number why) = Some (record { number = number; why = why })
-refusal_in OutOfMemory = None
+-- The text is all of the line but the byte that ends it, or a front of it, which is longer than a line may be.
+abbrev pub IsTextOf : List ℕ → List ℕ → Type 0
+IsTextOf text line = (content line ≡ text) ⊎ ((MOST_LINE_BYTES < length text) × (MOST_LINE_BYTES < length (content line)))
+
+-- The bytes begin with a line of this text and of so many bytes, as far as a line may be long, and then the rest follows.
+pub record BeginsWith (bytes rest text : List ℕ) (n : ℕ) : Type 0 where
+  pub line : List ℕ
+  pub later : List (List ℕ)
+  pub split : lines_of bytes ≡ line ∷ later
+  pub counted : min n (suc MOST_LINE_BYTES) ≡ min (length line) (suc MOST_LINE_BYTES)
+  pub text_of : IsTextOf text line
+  pub short : length text ≤ MOST_LINE_BYTES → (later ≡ lines_of rest) × (length line ≤ suc MOST_LINE_BYTES)
+
+abbrev pub HasLine : Option (List ℕ) → Option (List ℕ) → List ℕ → ℕ → Type 0
+HasLine None rest text n = ⊤
+HasLine (Some bytes) None text n = ⊥
+HasLine (Some bytes) (Some rest) text n = BeginsWith bytes rest text n
+
+abbrev pub IsAllRead : Option (List ℕ) → Type 0
+IsAllRead None = ⊤
+IsAllRead (Some bytes) = bytes ≡ []

@@ -1,12 +1,11 @@
-//! Packing lines of JSON into a block file. [`pack`] reads the lines of an input and makes the file:
+//! Packing lines of JSON into a block file. [`pack`] reads the lines of an input and makes the file, line by line:
 //! `pack(alloc, "logs.snel", &settings, &mut files, &mut input)?`.
 #![tactic(auto)]
 
-mod input;
-mod packed;
+mod appending;
+mod packer;
 mod packing;
-mod reading;
-mod splitting;
+mod reader;
 mod sums;
 
 pub use json_rows::PackSettings;

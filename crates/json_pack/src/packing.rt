@@ -8,11 +8,14 @@ ghost use Rattle.pack_meaning.specs.Splitting.{lines_of};
 ghost use Rattle.pack_meaning.specs.Packing.{refusal, sum_of};
 ghost use Rattle.json_rows.specs.LineViews.{settings_view};
 ghost use Rattle.json_pack.specs.Packs.{sum_view, counted, refusal_in, file_for, HoldsLines, HasFrontOf, LeavesFront};
+ghost use Rattle.json_pack.specs.Packing.{ExtendsFront};
 
-use crate::input::{BytesFault, read_all};
-use crate::packed::pack_bytes;
+use crate::appending::{end_file, put_piece};
+use crate::packer::LinePacker;
+use crate::reader::LineReader;
 use crate::sums::{PackFault, PackSum};
 use json_rows::PackSettings;
+use pack_meaning::MOST_INPUT_BYTES;
 use snel_device::{Files, FreshFault, Input};
 use std::alloc::Global;
 
@@ -23,8 +26,9 @@ use std::alloc::Global;
 /// is the one file of these rows. `Line` names the first line that is refused, and why. After another answer than `Ok`
 /// the file, if this call made it, has a front of the file of the rows of the lines before the fault.
 ///
-/// The input is read whole before its lines are, and the file is appended in one piece: memory holds the input, its rows and
-/// the file. An input of more than 2^42 bytes is want of memory.
+/// Lines are read one after the other, and a block is added to the file as soon as a row doesn't fit into it any more: memory
+/// holds a piece of the input, a line, the rows of one block with its bytes, and an entry of each block. A line of more than
+/// 1,048,576 bytes is refused as soon as it has more.
 ///
 /// `Exists` comes exactly where there is a file of this name, `ReadFault` only where the count of faults of the input rose,
 /// and `WriteFault` only where that of the files' write faults did.
@@ -102,11 +106,12 @@ fn fill<F: Files, I: Input>(
 
     ensures refused { IfErr result (λ fault. IfSome (refusal_in fault) (λ r. ForSome (I.left input.old)
         (λ bytes. refusal (settings_view settings.now) (lines_of bytes) ≡ Some r))) }
-    ensures unchanged { IfErr result (λ fault. IfSome (refusal_in fault)
-        (λ r. F.told files.new ≡ F.told files.old)) }
-    ensures front { OnErr result (ForSome (I.left input.old) (λ bytes. (n : ℕ)
-        × Extends (F.told files.old) (F.told files.new) name.now
-        (take n (file_for (settings_view settings.now) (lines_of bytes))))) }
+    ensures before { IfErr result (λ fault. IfSome (refusal_in fault) (λ r. ForSome (I.left input.old)
+        (λ bytes. ExtendsFront (settings_view settings.now) (take (r.number - 1) (lines_of bytes))
+        (F.told files.old) (F.told files.new) name.now))) }
+    ensures front { OnErr result (ForSome (I.left input.old) (λ bytes. (k : ℕ)
+        × ExtendsFront (settings_view settings.now) (take k (lines_of bytes))
+        (F.told files.old) (F.told files.new) name.now)) }
 
     ensures not_exists { IsErrOf result PackFault.Exists → ⊥ }
     ensures read_fault { HasCause (I.faults input.old) (I.faults input.new)
@@ -117,17 +122,20 @@ fn fill<F: Files, I: Input>(
     ensures same_read_faults { F.read_faults files.new ≡ F.read_faults files.old }
     ensures same_taken { F.taken files.new ≡ F.taken files.old }
 {
-    let bytes = match read_all(alloc, input) {
-        Ok(bytes) => bytes,
-        Err(BytesFault::Failed) => return Err(PackFault::ReadFault),
-        Err(BytesFault::OutOfMemory) => return Err(PackFault::OutOfMemory),
+    let Ok(mut reader) = LineReader::new(alloc) else {
+        return Err(PackFault::OutOfMemory);
     };
-    let packed = match pack_bytes(alloc, bytes.as_slice(), settings) {
-        Ok(packed) => packed,
-        Err(fault) => return Err(fault),
-    };
-    match files.append(name, packed.file.as_slice()) {
-        Ok(()) => Ok(packed.sum),
-        Err(_) => Err(PackFault::WriteFault),
+    let mut packer = LinePacker::new(alloc, settings);
+    while packer.at <= MOST_INPUT_BYTES {
+        let closed = match packer.pack_line(alloc, settings, &mut reader, input) {
+            Ok(Some(closed)) => closed,
+            Ok(None) => return end_file(alloc, name, settings, packer.rows, files),
+            Err(fault) => return Err(fault),
+        };
+        match put_piece(name, closed.as_slice(), files) {
+            Ok(()) => {}
+            Err(_) => return Err(PackFault::WriteFault),
+        }
     }
+    unreachable!()
 }

@@ -1,3 +1,3 @@
-pub mod Cutting
 pub mod Spans
 pub mod Files
+pub mod Writing

@@ -1,10 +1,12 @@
-//! From rows to a block file. A [`Cutter`] counts the rows of each block while rows come, and [`write_file`] gives the file:
-//! `write_file(alloc, &rows, cutter.finish()?, Some("time"))?`.
+//! Rows, one after the other, as the bytes of a block file. A [`BlockWriter`] takes rows, gives the bytes of each block that
+//! it closes, and at the end the last block and the index:
+//! `let closed = writer.add(alloc, row, Some("time"))?;` .. `let last = writer.finish(alloc, Some("time"))?;`
 #![tactic(auto)]
 
-mod cutter;
+mod closing;
+mod finishing;
 mod span;
-mod writing;
+mod writer;
 
-pub use cutter::Cutter;
-pub use writing::write_file;
+pub use finishing::Finished;
+pub use writer::{BlockWriter, RowFault};
