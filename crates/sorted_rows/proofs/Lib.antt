@@ -1,0 +1,3 @@
+mod EachFlag
+mod Adding
+mod Sorting

@@ -1,0 +1,3 @@
+pub mod Holding
+pub mod Grown
+pub mod Sorted
