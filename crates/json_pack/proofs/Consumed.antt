@@ -1,5 +1,5 @@
 -- Bytes that come piece by piece.
-use Rattle.std.proofs.Common.{◌≡◌, ◌≤◌, ◌^◌, ◌+◌, ◌-◌, min, ℕ, List, [], ◌++◌, length, take, Option, Some, None, refl, sym, ap, ◌∙◌, append_assoc, append-nil, arith}
+use Rattle.std.proofs.Common.{◌≡◌, ◌≤◌, ℕ, List, [], ◌++◌, Option, Some, None, sym, ap, ◌∙◌, append_assoc, append-nil, arith}
 use Rattle.std.specs.Option.{ForSome}
 use Rattle.snel_device.specs.Causes.{HasCause}
 use Rattle.std.specs.Io.KnownBytes.{Consumes, IsAtEnd}

@@ -1,5 +1,5 @@
 -- Lines that are packed up to a place, and the file so far.
-use Rattle.std.proofs.Common.{◌≡◌, ℕ, ◌-◌, ◌+◌, ◌≤◌, List, [], ◌∷◌, ◌++◌, length, take, Option, Some, None, Ok, Err, Result, refl, sym, ap, subst, ◌∙◌, arith, append-nil, inr}
+use Rattle.std.proofs.Common.{◌≡◌, ℕ, ◌-◌, List, [], ◌∷◌, ◌++◌, length, take, Option, Some, None, Ok, Err, Result, refl, sym, ap, subst, ◌∙◌, arith, append-nil, inr}
 use Rattle.std.specs.Prelude.{OnOk, OnErr, IfOk, IfErr, IfSome}
 use Rattle.std.specs.Option.{ForSome, option_map}
 use Rattle.std.proofs.lemmas.List.{take_all}
@@ -14,8 +14,10 @@ use Rattle.json_pack.specs.declared.sums.PackSum.{PackSum}
 use Rattle.json_pack.specs.declared.sums.PackFault.{PackFault}
 use Rattle.json_pack.specs.Reading.{IsAllRead}
 use Rattle.json_pack.specs.Packs.{refusal_in, file_for, HoldsLines, HasFrontOf, LeavesFront, sum_view, counted}
-use Rattle.json_pack.specs.Packing.{HasRead, CanPack, IsUpTo, IsToldUpTo, IsPacking, GoesOn, IsFront, StopsHere, StopsAt, EndsFile, BreaksFile, SumsUp, ExtendsFront, IsFilling}
-use Rattle.json_pack.proofs.Making.{compose, extends_more, extends_same, front_of_front, front_trans, read_front, whole_front}
+use Rattle.json_pack.specs.Packing.{HasRead, CanPack, IsUpTo, IsToldUpTo, IsPacking, GoesOn, StopsAt, ExtendsFront, IsFilling}
+use Rattle.json_pack.specs.Ending.{IsFront, EndsFile, BreaksFile, SumsUp}
+use Rattle.pack_blocks.specs.Writing.{IsGoing}
+use Rattle.json_pack.proofs.Fronts.{compose, extends_more, extends_same, front_of_front, front_trans, read_front, whole_front, sum_lines}
 
 -- before the first line
 pub starts : (s : Settings) (whole rest : Option (List ℕ)) (told : Option Contents) (name : List ℕ) (p : LinePacker) → HasRead s [] [] p.rows → p.number ≡ 0 → p.at ≡ 0 → rest ≡ whole → Extends told told name []
@@ -35,6 +37,9 @@ starts_ahead (Some b) unread e = ap (λ x. Some x) (ap (λ u. u ++ b) e)
 
 pub can_pack : (s : Settings) (whole rest : Option (List ℕ)) (old new : Option Contents) (name : List ℕ) (p : LinePacker) → IsFilling s whole rest old new name p → CanPack s p.rows
 can_pack s whole rest old new name p f = record { before = f.packing.before; given = f.given; read = f.packing.read }
+
+pub can_end : (s : Settings) (whole rest : Option (List ℕ)) (old new : Option Contents) (name : List ℕ) (p : LinePacker) → IsFilling s whole rest old new name p → IsGoing s.time_field p.rows.writer
+can_end s whole rest old new name p f = record { most = s.most; done = packed s f.packing.before; given = f.given; is = f.packing.read.writer }
 
 -- All lines are packed, and none is refused.
 record IsAll (s : Settings) (bytes given : List ℕ) (r : PackedRows) : Type 0 where
@@ -66,20 +71,20 @@ module _ (s : Settings) (whole rest : Option (List ℕ)) (old told new : Option 
   filled_holds (Ok v) = λ b is. files_hold s.time_field s.most (packed s (lines_of b)) (all b is).read.writer.may
   filled_holds (Err e) = tt
 
-  pub filled_file : {T E : Type 0} (r : Result T E) → OnOk r (EndsFile s p.rows told new name) → OnOk r (ForSome whole (λ b. Extends old new name (file_for s (lines_of b))))
+  pub filled_file : {T E : Type 0} (r : Result T E) → OnOk r (EndsFile s.time_field p.rows.writer told new name) → OnOk r (ForSome whole (λ b. Extends old new name (file_for s (lines_of b))))
   filled_file (Ok v) h = λ b is.
-      let e = h (lines_of b) f.given (all b is).read in
+      let e = h s.most (packed s (lines_of b)) f.given (all b is).read.writer in
       extends_same old new name (f.given ++ e.0) (file_for s (lines_of b)) e.2 (extends_more old told new name f.given e.0 f.added e.1)
   filled_file (Err x) h = tt
 
-  pub filled_sum : {E : Type 0} (r : Result PackSum E) → IfOk r (λ sum. SumsUp s p.rows (sum_view sum)) → IfOk r (λ sum. ForSome whole (λ b. sum_view sum ≡ counted (sum_of s (lines_of b))))
-  filled_sum (Ok v) h = λ b is. h (lines_of b) f.given (all b is).read
+  pub filled_sum : {E : Type 0} (r : Result PackSum E) → IfOk r (λ sum. SumsUp s.time_field p.rows (sum_view sum)) → IfOk r (λ sum. ForSome whole (λ b. sum_view sum ≡ counted (sum_of s (lines_of b))))
+  filled_sum (Ok v) h = λ b is. sum_lines s (lines_of b) f.given p.rows (sum_view v) (all b is).read (h s.most (packed s (lines_of b)) f.given (all b is).read.writer)
   filled_sum (Err x) h = tt
 
-  pub filled_front : {T E : Type 0} (r : Result T E) → OnErr r (BreaksFile s p.rows told new name) → OnErr r (ForSome whole (λ b. (k : ℕ) × ExtendsFront s (take k (lines_of b)) old new name))
+  pub filled_front : {T E : Type 0} (r : Result T E) → OnErr r (BreaksFile s.time_field p.rows.writer told new name) → OnErr r (ForSome whole (λ b. (k : ℕ) × ExtendsFront s (take k (lines_of b)) old new name))
   filled_front (Ok v) h = tt
   filled_front (Err x) h = λ b is.
-      let e = h (lines_of b) f.given (all b is).read in
+      let e = h s.most (packed s (lines_of b)) f.given (all b is).read.writer in
       let ls = lines_of b in
       let every : take (length ls) ls ≡ ls = take_all (length ls) ls (omega arith) in
       (length ls, (e.2.0, extends_same old new name (f.given ++ e.0) (take e.2.0 (file_for s (take (length ls) ls))) (e.2.1 ∙ ap (λ l. take e.2.0 (file_for s l)) (sym every)) (extends_more old told new name f.given e.0 f.added e.1)))

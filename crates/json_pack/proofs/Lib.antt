@@ -1,5 +1,6 @@
 pub mod Consumed
 pub mod Reading
 pub mod Lines
-pub mod Making
+pub mod Fronts
 pub mod Filling
+pub mod Logs

@@ -1,5 +1,5 @@
 -- Lines, one by one.
-use Rattle.std.proofs.Common.{◌≡◌, ◌⊎◌, inl, inr, ℕ, zero, suc, ◌+◌, ◌-◌, ◌^◌, ◌<◌, ◌≤◌, min, Bool, true, false, not, ◌&&◌, nat_lt, List, [], ◌∷◌, ◌++◌, length, take, drop, sum_by, Option, Some, None, refl, sym, ap, subst, ◌∙◌, arith, append-nil, append_assoc}
+use Rattle.std.proofs.Common.{◌≡◌, inl, inr, ℕ, suc, ◌+◌, ◌-◌, ◌^◌, ◌<◌, ◌≤◌, min, Bool, true, false, not, ◌&&◌, nat_lt, List, [], ◌∷◌, ◌++◌, length, take, Option, Some, None, refl, sym, ap, subst, ◌∙◌, arith, append-nil, append_assoc}
 use Rattle.std.specs.Prelude.{if◌then◌else◌, IfSome, option_map}
 use Rattle.std.specs.List.{filter_map, cons_option, list_all}
 use Rattle.std.specs.Option.{ForSome}
@@ -8,12 +8,12 @@ use Rattle.std.proofs.lemmas.List.{length-append}
 use Rattle.std.proofs.lemmas.List.Sums.{sum_by-append}
 use Rattle.serde_json.specs.Data.{Data, Members}
 use Rattle.serde_json.specs.Find.{as_object}
-use Rattle.value_meaning.specs.Val.{Val, vals}
+use Rattle.value_meaning.specs.Val.{Val}
 use Rattle.file_meaning.specs.declared.TheConstants.{MOST_BLOCKS}
 use Rattle.write_meaning.specs.Weights.{weight}
 use Rattle.write_meaning.specs.Standing.{IsWritableRow}
 use Rattle.pack_meaning.specs.declared.LineWhy.{LineWhy}
-use Rattle.pack_meaning.specs.declared.LineWhy.TheVariants.{TooLong, NotJson, NotObject, Number, TooLarge, TooMuch, Full}
+use Rattle.pack_meaning.specs.declared.LineWhy.TheVariants.{TooLong, Number, TooLarge, TooMuch, Full}
 use Rattle.pack_meaning.specs.declared.TheConstants.{MOST_LINE_BYTES, MOST_INPUT_BYTES}
 use Rattle.pack_meaning.specs.Splitting.{lines_of, content, HasNoEnd}
 use Rattle.pack_meaning.proofs.Splitting.{content_bare}
@@ -23,13 +23,13 @@ use Rattle.pack_meaning.specs.Cuts.{Rows, cut}
 use Rattle.pack_meaning.specs.Packing.{Refusal, row_of, dropped_of, packed, dropped_from, bytes_in, is_too_much, is_full, reason_of, reason_at, first_of, refusal_from, refusal}
 use Rattle.json_rows.specs.LineViews.{counted}
 use Rattle.pack_blocks.specs.declared.writer.BlockWriter.{BlockWriter}
-use Rattle.pack_blocks.specs.Writing.{IsWriting, CanTake, Adds, IsFullFor}
+use Rattle.pack_blocks.specs.Writing.{CanTake, Adds, IsFullFor}
 use Rattle.pack_blocks.proofs.Writing.{given_front}
 use Rattle.json_pack.specs.declared.packer.PackedRows.{PackedRows}
 use Rattle.json_pack.specs.declared.packer.LinePacker.{LinePacker}
-use Rattle.json_pack.specs.Reading.{IsTextOf, BeginsWith, HasLine, IsAllRead}
+use Rattle.json_pack.specs.Reading.{IsTextOf, BeginsWith, HasLine}
 use Rattle.json_pack.specs.Packs.{file_for}
-use Rattle.json_pack.specs.Packing.{HasRead, CanPack, Goes, IsLike, AddsLine, AddsRow, RefusesRow, RefusesText, counted_bytes, TakesLine, RefusesLine, IsUpTo, IsToldUpTo, IsPacking, GoesOn, StopsHere, StopsAt}
+use Rattle.json_pack.specs.Packing.{HasRead, CanPack, IsLike, AddsLine, AddsRow, RefusesRow, RefusesText, counted_bytes, TakesLine, RefusesLine, IsUpTo, IsToldUpTo, IsPacking, GoesOn, StopsHere, StopsAt}
 
 -- a row that a line comes to isn't too heavy
 fitting_light : (most : ℕ) (u v : Val) (n d : ℕ) → fitting most u n ≡ row v d → weight v ≤ most

@@ -1,16 +1,16 @@
 -- Lines of bytes that come piece by piece.
-use Rattle.std.proofs.Common.{◌≡◌, ◌≢◌, ◌⊎◌, inl, inr, ℕ, zero, suc, ◌+◌, ◌-◌, ◌<◌, ◌≤◌, min, Bool, true, false, ◌==◌, List, [], ◌∷◌, ◌++◌, length, take, drop, slice_index, Option, Some, None, refl, sym, ap, subst, ◌∙◌, arith, append_assoc, append-nil}
+use Rattle.std.proofs.Common.{◌≡◌, ◌≢◌, inl, inr, ℕ, zero, suc, ◌+◌, ◌-◌, ◌<◌, ◌≤◌, min, Bool, true, false, ◌==◌, List, [], ◌∷◌, ◌++◌, length, take, drop, Option, Some, None, refl, sym, ap, subst, ◌∙◌, arith, append_assoc, append-nil}
 use Rattle.std.specs.Option.{option_map}
 use Rattle.std.specs.Prelude.{IfSome}
 use Rattle.json_pack.proofs.Consumed.{consumed_more}
 use Rattle.std.specs.Io.KnownBytes.{Consumes, IsAtEnd}
 use Rattle.std.proofs.lemmas.Bool.{eqb-true, eq-eqb}
-use Rattle.std.proofs.lemmas.List.{take_all, drop_all, length-append}
-use Rattle.memchr.specs.Find.{IsFirstByte, Passes, Nowhere, is_byte}
+use Rattle.std.proofs.lemmas.List.{take_all, length-append}
+use Rattle.memchr.specs.Find.{IsFirstByte, Passes, is_byte}
 use Rattle.pack_meaning.specs.declared.TheConstants.{MOST_LINE_BYTES}
 use Rattle.pack_meaning.specs.Splitting.{line_end, lines_of, with_byte, content, HasNoEnd}
 use Rattle.pack_meaning.proofs.Splitting.{first_line, last_line, content_ended, content_bare}
-use Rattle.json_pack.specs.Reading.{TakesFront, IsTextOf, BeginsWith, HasLine, IsAllRead}
+use Rattle.json_pack.specs.Reading.{TakesFront, BeginsWith, HasLine, IsAllRead}
 
 -- no line end stands before the place
 no_end : (bytes : List ℕ) (i : ℕ) → ((k : ℕ) → k < i → ¬ Passes (is_byte 10) bytes k) → HasNoEnd (take i bytes)

@@ -9,10 +9,11 @@ use Rattle.pack_meaning.specs.declared.LineWhy.{LineWhy}
 use Rattle.pack_meaning.specs.declared.TheConstants.{MOST_LINE_BYTES, MOST_INPUT_BYTES}
 use Rattle.pack_meaning.specs.Splitting.{lines_of, content}
 use Rattle.pack_meaning.specs.Lines.{Settings, row, line_of}
-use Rattle.pack_meaning.specs.Packing.{Refusal, Sum, packed, dropped_from, bytes_in, reason_of, reason_at, refusal_from, refusal, sum_of}
+use Rattle.pack_meaning.specs.Packing.{Refusal, packed, dropped_from, bytes_in, reason_of, reason_at, refusal_from, refusal}
 use Rattle.json_rows.specs.LineViews.{counted}
 use Rattle.pack_blocks.specs.Writing.{IsWriting}
-use Rattle.json_pack.specs.Packs.{file_for, counted as counted_sum}
+use Rattle.json_pack.specs.Packs.{file_for}
+use Rattle.json_pack.specs.Ending.{IsFront}
 
 -- The rows are those of these lines, which may be packed, and these bytes of blocks were given away.
 pub record HasRead (s : Settings) (before : List (List ℕ)) (given : List ℕ) (r : PackedRows) : Type 0 where
@@ -100,10 +101,6 @@ abbrev pub GoesOn : Settings → Option (List ℕ) → Option (List ℕ) → Lin
 GoesOn s old_rest new_rest old new closed =
     (whole : Option (List ℕ)) (given : List ℕ) → IsPacking s whole old_rest given old → IsPacking s whole new_rest (given ++ closed) new
 
--- the bytes are a front of these
-abbrev pub IsFront : List ℕ → List ℕ → Type 0
-IsFront front bytes = (n : ℕ) × (front ≡ take n bytes)
-
 -- The next line is refused, and what was given away is a front of the file of the lines before it.
 pub record StopsHere (s : Settings) (bytes given : List ℕ) (r : Refusal) : Type 0 where
   pub refused : refusal s (lines_of bytes) ≡ Some r
@@ -111,20 +108,6 @@ pub record StopsHere (s : Settings) (bytes given : List ℕ) (r : Refusal) : Typ
 
 abbrev pub StopsAt : Settings → Option (List ℕ) → LinePacker → Refusal → Type 0
 StopsAt s rest p r = (whole : Option (List ℕ)) (given : List ℕ) → IsPacking s whole rest given p → ForSome whole (λ bytes. StopsHere s bytes given r)
-
--- what was added to the file of this name ends the file of the lines
-abbrev pub EndsFile : Settings → PackedRows → Option Contents → Option Contents → List ℕ → Type 0
-EndsFile s r old new name =
-    (before : List (List ℕ)) (given : List ℕ) → HasRead s before given r → (piece : List ℕ) × Extends old new name piece × (given ++ piece ≡ file_for s before)
-
--- a front of what ends the file of the lines was added to the file of this name
-abbrev pub BreaksFile : Settings → PackedRows → Option Contents → Option Contents → List ℕ → Type 0
-BreaksFile s r old new name =
-    (before : List (List ℕ)) (given : List ℕ) → HasRead s before given r → (piece : List ℕ) × Extends old new name piece × IsFront (given ++ piece) (file_for s before)
-
--- the counts of the lines
-abbrev pub SumsUp : Settings → PackedRows → Sum → Type 0
-SumsUp s r sum = (before : List (List ℕ)) (given : List ℕ) → HasRead s before given r → sum ≡ counted_sum (sum_of s before)
 
 -- The file of this name grew by a front of the file of these lines, and no other file changed.
 abbrev pub ExtendsFront : Settings → List (List ℕ) → Option Contents → Option Contents → List ℕ → Type 0

@@ -1,11 +1,10 @@
 -- What packing answers and leaves.
-use Rattle.std.specs.Prelude.{◌≡◌, ◌⊎◌, ℕ, ◌-◌, ◌^◌, ◌≤◌, min, List, length, take, Option, Some, None}
+use Rattle.std.specs.Prelude.{◌≡◌, ◌⊎◌, ℕ, ◌-◌, ◌^◌, min, List, take, Option, Some, None}
 use Rattle.json_pack.specs.declared.sums.PackSum.{PackSum}
 use Rattle.json_pack.specs.declared.sums.PackFault.{PackFault}
 use Rattle.json_pack.specs.declared.sums.PackFault.TheVariants.{Exists, Line, ReadFault, WriteFault, OutOfMemory}
 use Rattle.snel_device.specs.Contents.{Contents, Sets}
 use Rattle.pack_meaning.specs.Lines.{Settings}
-use Rattle.pack_meaning.specs.Cuts.{Rows}
 use Rattle.pack_meaning.specs.PackedFiles.{file_of, field_name, HoldsRows}
 use Rattle.pack_meaning.specs.Packing.{Refusal, Sum, packed}
 

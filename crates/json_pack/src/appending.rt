@@ -1,15 +1,14 @@
 //! Adding to the file that is made.
 ghost use Rattle.std.specs.Prelude.{◌≡◌, ◌⊎◌, ℕ, length, take, IfOk, IfErr, OnOk, OnErr, IsSome, IsErr, IsErrOf};
-ghost use Rattle.std.specs.Option.{ForSome};
+ghost use Rattle.std.specs.Option.{ForSome, option_map};
+ghost use Rattle.pack_blocks.specs.Writing.{IsGoing};
 ghost use Rattle.snel_device.specs.Causes.{HasCause};
 ghost use Rattle.snel_device.specs.Contents.{Extends};
-ghost use Rattle.json_rows.specs.LineViews.{settings_view};
 ghost use Rattle.json_pack.specs.Packs.{sum_view};
-ghost use Rattle.json_pack.specs.Packing.{CanPack, EndsFile, BreaksFile, SumsUp};
+ghost use Rattle.json_pack.specs.Ending.{EndsFile, BreaksFile, SumsUp};
 
 use crate::packer::PackedRows;
 use crate::sums::{PackFault, PackSum};
-use json_rows::PackSettings;
 use snel_device::{Failed, Files};
 use std::alloc::Global;
 
@@ -30,20 +29,20 @@ pub(crate) fn put_piece<F: Files>(name: &str, piece: &[u8], files: &mut F) -> Re
     files.append(name, piece)
 }
 
-/// Adds what ends the file of the rows: the last block, the index and the tail.
+/// Adds what ends the file of the rows: the last block, the index and the tail. `field` is the indexed field.
 pub(crate) fn end_file<F: Files>(
     alloc: Global,
     name: &str,
-    settings: &PackSettings<'_>,
+    field: Option<&str>,
     rows: PackedRows,
     files: &mut F,
 ) -> Result<PackSum, PackFault>
     requires there { ForSome (F.told files.old) (λ told. IsSome (told name.now)) }
-    requires rows { CanPack (settings_view settings.now) rows }
-    ensures file { OnOk result (EndsFile (settings_view settings.now) rows
+    requires rows { IsGoing (option_map (λ s. s.now) field) rows.writer }
+    ensures file { OnOk result (EndsFile (option_map (λ s. s.now) field.entry) rows.writer
         (F.told files.old) (F.told files.new) name.now) }
-    ensures sum { IfOk result (λ sum. SumsUp (settings_view settings.now) rows (sum_view sum)) }
-    ensures broken { OnErr result (BreaksFile (settings_view settings.now) rows
+    ensures sum { IfOk result (λ sum. SumsUp (option_map (λ s. s.now) field.entry) rows (sum_view sum)) }
+    ensures broken { OnErr result (BreaksFile (option_map (λ s. s.now) field.entry) rows.writer
         (F.told files.old) (F.told files.new) name.now) }
     ensures only { IfErr result (λ f. (f ≡ PackFault.WriteFault) ⊎ (f ≡ PackFault.OutOfMemory)) }
     ensures fault { HasCause (F.write_faults files.old) (F.write_faults files.new)
@@ -53,7 +52,7 @@ pub(crate) fn end_file<F: Files>(
     ensures same_taken { F.taken files.new ≡ F.taken files.old }
 {
     let dropped = rows.dropped;
-    let last = match rows.writer.finish(alloc, settings.time) {
+    let last = match rows.writer.finish(alloc, field) {
         Ok(last) => last,
         Err(_) => return Err(PackFault::OutOfMemory),
     };

@@ -129,7 +129,7 @@ fn fill<F: Files, I: Input>(
     while packer.at <= MOST_INPUT_BYTES {
         let closed = match packer.pack_line(alloc, settings, &mut reader, input) {
             Ok(Some(closed)) => closed,
-            Ok(None) => return end_file(alloc, name, settings, packer.rows, files),
+            Ok(None) => return end_file(alloc, name, settings.time, packer.rows, files),
             Err(fault) => return Err(fault),
         };
         match put_piece(name, closed.as_slice(), files) {

@@ -1,6 +1,6 @@
-use Rattle.std.proofs.Common.{refl, sym, subst}
+use Rattle.std.proofs.Common.{sym, subst}
 use Rattle.snel_device.specs.Contents.{Extends}
-use Rattle.json_pack.proofs.Making.{extends_none, no_bytes}
+use Rattle.json_pack.proofs.Fronts.{extends_none, no_bytes}
 use Rattle.json_pack.proofs.appending.put_piece.Goals as goal
 
 pub returns-then-is_empty-clause-grown : goal.returns-then-is_empty-clause-grown

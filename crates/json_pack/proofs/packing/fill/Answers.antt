@@ -1,8 +1,7 @@
-use Rattle.std.proofs.Common.{◌≤◌, ◌^◌, Ok, refl, arith, ap, sym, subst, ◌∙◌}
+use Rattle.std.proofs.Common.{◌≤◌, ◌^◌, Ok, refl, arith, ap, ◌∙◌}
 use Rattle.json_rows.specs.LineViews.{settings_view}
-use Rattle.json_pack.specs.Packing.{GoesOn}
-use Rattle.json_pack.proofs.Making.{extends_none, still_there}
-use Rattle.json_pack.proofs.Filling.{starts, starts_ahead, can_pack, filled_accepted, filled_holds, filled_file, filled_sum, filled_front, still_filling, stop_refused, stop_before, so_far, goes_further_some, breaks_off_some, if_some}
+use Rattle.json_pack.proofs.Fronts.{extends_none}
+use Rattle.json_pack.proofs.Filling.{starts, starts_ahead, filled_accepted, filled_holds, filled_file, filled_sum, filled_front, still_filling, stop_refused, stop_before, so_far, goes_further_some, breaks_off_some, if_some}
 use Rattle.json_pack.proofs.packing.fill.Goals as goal
 
 pub returns-in_default-clause-front : goal.returns-in_default-clause-front

@@ -1,5 +1,4 @@
-use Rattle.std.proofs.Common.{◌≡◌, ◌≤◌, ◌-◌, ◌+◌, ◌^◌, length, List, ℕ}
-use Rattle.snel_device.specs.Contents.{Extends}
+use Rattle.std.proofs.Common.{◌≡◌, ◌≤◌, ◌-◌, ◌+◌, ◌^◌}
 use Rattle.json_rows.specs.LineViews.{settings_view}
 use Rattle.json_pack.specs.Reading.{IsReady, ahead}
 use Rattle.json_pack.specs.Packing.{IsFilling}

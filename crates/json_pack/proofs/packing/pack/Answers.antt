@@ -1,8 +1,7 @@
-use Rattle.std.proofs.Common.{◌∙◌, arith}
 use Rattle.pack_meaning.specs.Splitting.{lines_of}
 use Rattle.json_rows.specs.LineViews.{settings_view}
 use Rattle.json_pack.specs.Packs.{file_for}
-use Rattle.json_pack.proofs.Making.{is_there, sets_all}
+use Rattle.json_pack.proofs.Fronts.{is_there, sets_all}
 use Rattle.json_pack.proofs.Filling.{set_front, set_before}
 use Rattle.json_pack.proofs.packing.pack.Goals as goal
 

@@ -1,4 +1,4 @@
-use Rattle.std.proofs.Common.{refl, arith, ap, sym, subst, ◌∙◌}
+use Rattle.std.proofs.Common.{subst}
 use Rattle.std.specs.Prelude.{IfSome}
 use Rattle.json_rows.specs.LineViews.{settings_view, reason_of as why_of}
 use Rattle.json_pack.specs.Packing.{TakesLine, RefusesLine}

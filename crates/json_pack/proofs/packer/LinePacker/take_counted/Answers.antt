@@ -1,4 +1,4 @@
-use Rattle.std.proofs.Common.{refl, arith, ap, ◌∙◌}
+use Rattle.std.proofs.Common.{arith}
 use Rattle.json_rows.specs.LineViews.{settings_view}
 use Rattle.json_pack.proofs.Lines.{line_too_much, line_refused}
 use Rattle.json_pack.proofs.packer.LinePacker.take_counted.Goals as goal

@@ -1,4 +1,4 @@
-use Rattle.std.proofs.Common.{refl, arith, ap, ◌∙◌}
+use Rattle.std.proofs.Common.{ap, ◌∙◌}
 use Rattle.json_rows.specs.LineViews.{settings_view, line_view}
 use Rattle.snel_values.specs.View.{view}
 use Rattle.json_pack.proofs.Lines.{light_row, blank_added, short_blank, short_row, row_line, row_refused}

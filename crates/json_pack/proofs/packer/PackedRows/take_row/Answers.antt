@@ -1,4 +1,4 @@
-use Rattle.std.proofs.Common.{refl, arith, ap, Err}
+use Rattle.std.proofs.Common.{refl, ap, Err}
 use Rattle.json_rows.specs.LineViews.{settings_view}
 use Rattle.snel_values.specs.View.{view}
 use Rattle.json_pack.proofs.Lines.{can_take, row_added, row_full}

@@ -1,7 +1,7 @@
-use Rattle.std.proofs.Common.{refl, arith, ap, sym, subst, ◌∙◌, ◌+◌, length, true, false}
+use Rattle.std.proofs.Common.{arith, sym, subst, false}
 use Rattle.pack_meaning.specs.Splitting.{HasNoEnd}
 use Rattle.json_pack.specs.Reading.{unread, TakesFront}
-use Rattle.json_pack.proofs.Reading.{as_far, last_told, all_ended, line_found, bare_found, line_grows, grows_further, line_long}
+use Rattle.json_pack.proofs.Reading.{as_far, last_told, line_found, bare_found, line_grows, line_long}
 use Rattle.json_pack.proofs.reader.LineReader.next_line.Goals as goal
 
 pub returns-in-Ok-false-clause-line : goal.returns-in-Ok-false-clause-line

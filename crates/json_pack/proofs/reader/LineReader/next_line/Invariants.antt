@@ -1,4 +1,4 @@
-use Rattle.std.proofs.Common.{◌≡◌, ◌≤◌, ◌-◌, ◌+◌, length}
+use Rattle.std.proofs.Common.{◌≤◌, ◌-◌, ◌+◌, length}
 use Rattle.std.specs.Io.KnownBytes.{Consumes}
 use Rattle.pack_meaning.specs.declared.TheConstants.{MOST_LINE_BYTES}
 use Rattle.pack_meaning.specs.Splitting.{HasNoEnd}

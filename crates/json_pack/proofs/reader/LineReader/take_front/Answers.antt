@@ -1,4 +1,4 @@
-use Rattle.std.proofs.Common.{refl, arith, ap, ◌∙◌, ◌-◌, take, drop}
+use Rattle.std.proofs.Common.{refl, ap, ◌-◌, take, drop}
 use Rattle.json_pack.proofs.Reading.{front_some, front_none}
 use Rattle.json_pack.proofs.reader.LineReader.take_front.Goals as goal
 

@@ -1,7 +1,7 @@
 -- A file that is made, and what is added to it.
-use Rattle.std.proofs.Common.{◌≡◌, ◌⊎◌, inl, inr, ◌↔◌, ℕ, ◌-◌, List, [], ◌++◌, length, take, Option, Some, None, Ok, Err, Result, refl, sym, ap, subst, ◌∙◌, arith, append-nil, Bool, true, false, bytes_eq, ◌∷◌, ◌+◌, ◌≤◌, ◌^◌, ◌==◌, min, zero, suc, append_assoc}
+use Rattle.std.proofs.Common.{◌≡◌, ℕ, List, [], ◌++◌, length, take, Option, Some, None, Ok, Err, Result, refl, sym, ap, subst, ◌∙◌, arith, append-nil, Bool, true, false, bytes_eq, ◌∷◌, ◌==◌, min, zero, suc, append_assoc}
 use Rattle.std.proofs.Math.Path.{fun_ext}
-use Rattle.std.specs.Prelude.{OnOk, OnErr, IfErr, IfSome, IsSome, IsErrOf}
+use Rattle.std.specs.Prelude.{OnOk, IsSome}
 use Rattle.std.specs.Option.{ForSome, option_map}
 use Rattle.std.proofs.lemmas.List.{take_all}
 use Rattle.std.proofs.lemmas.Map.Text.{text_keys}
@@ -9,23 +9,18 @@ use Rattle.std.proofs.lemmas.Slice.Eq.{bytes_eq-Decides}
 use Rattle.write_meaning.proofs.Paying.{itself}
 use Rattle.snel_device.specs.Contents.{Contents, with_file, with_piece, Sets, Extends}
 use Rattle.pack_meaning.specs.Lines.{Settings}
-use Rattle.pack_meaning.specs.Packing.{Refusal, Sum, packed, refusal, refusal_from, sum_of}
-use Rattle.pack_meaning.specs.PackedFiles.{file_of, field_name}
+use Rattle.pack_meaning.specs.Packing.{Sum, packed, sum_of}
 use Rattle.pack_meaning.specs.Cuts.{cut}
-use Rattle.pack_meaning.specs.Splitting.{lines_of}
-use Rattle.json_pack.specs.declared.sums.PackFault.{PackFault}
 use Rattle.json_pack.specs.declared.packer.PackedRows.{PackedRows}
-use Rattle.json_pack.specs.declared.packer.LinePacker.{LinePacker}
 use Rattle.json_pack.specs.declared.sums.PackSum.{PackSum}
 use Rattle.pack_blocks.specs.declared.finishing.Finished.{Finished}
-use Rattle.pack_blocks.specs.Writing.{IsFinished, Finishes}
+use Rattle.pack_blocks.specs.Writing.{Finishes}
 use Rattle.pack_blocks.proofs.Writing.{given_front}
-use Rattle.pack_meaning.proofs.Files.{files_hold}
 use Rattle.std.proofs.lemmas.Bool.{eqb-true}
-use Rattle.std.proofs.lemmas.List.{length-append}
-use Rattle.json_pack.specs.Reading.{IsAllRead}
-use Rattle.json_pack.specs.Packing.{HasRead, CanPack, IsUpTo, IsToldUpTo, IsPacking, GoesOn, IsFront, StopsHere, StopsAt, EndsFile, BreaksFile, SumsUp, ExtendsFront, IsFilling}
-use Rattle.json_pack.specs.Packs.{refusal_in, file_for, HoldsLines, HasFrontOf, LeavesFront, sum_view, counted}
+use Rattle.json_pack.specs.Packing.{HasRead}
+use Rattle.json_pack.specs.Ending.{IsFront, EndsFile, BreaksFile, sum_for, SumsUp}
+use Rattle.pack_blocks.specs.declared.writer.BlockWriter.{BlockWriter}
+use Rattle.json_pack.specs.Packs.{file_for, sum_view, counted}
 
 grown : (name piece : List ℕ) (f : Contents) → with_piece name piece (with_file name [] f) ≡ with_file name piece f
 grown name piece f = fun_ext (λ q. at q (bytes_eq name q) refl)
@@ -145,24 +140,27 @@ pub read_front : (s : Settings) (before : List (List ℕ)) (given : List ℕ) (r
 read_front s before given r k = (length given, sym (given_front s.time_field s.most (packed s before) given r.writer k.writer))
 
 -- the end of the file
-pub ends_file : (s : Settings) (r : PackedRows) (last : Finished) (old new : Option Contents) (name piece : List ℕ) → Finishes s.time_field r.writer last → piece ≡ last.bytes → Extends old new name piece → EndsFile s r old new name
-ends_file s r last old new name piece f same e before given k =
-    (piece, e, ap (λ p. given ++ p) same ∙ (f s.most (packed s before) given k.writer).file)
+pub ends_file : (tf : Option (List ℕ)) (w : BlockWriter) (last : Finished) (old new : Option Contents) (name piece : List ℕ) → Finishes tf w last → piece ≡ last.bytes → Extends old new name piece → EndsFile tf w old new name
+ends_file tf w last old new name piece f same e most done given k =
+    (piece, e, ap (λ p. given ++ p) same ∙ (f most done given k).file)
 
-pub breaks_none : (s : Settings) (r : PackedRows) (told : Option Contents) (name : List ℕ) → BreaksFile s r told told name
-breaks_none s r told name before given k = ([], extends_none told name, rw (append-nil given) (read_front s before given r k))
+pub breaks_none : (tf : Option (List ℕ)) (w : BlockWriter) (told : Option Contents) (name : List ℕ) → BreaksFile tf w told told name
+breaks_none tf w told name most done given k = ([], extends_none told name, rw (append-nil given) (length given, sym (given_front tf most done given w k)))
 
-pub breaks_file : (s : Settings) (r : PackedRows) (last : Finished) (old new : Option Contents) (name piece : List ℕ) → Finishes s.time_field r.writer last → piece ≡ last.bytes → (n : ℕ) × Extends old new name (take n piece) → BreaksFile s r old new name
-breaks_file s r last old new name piece f same cut before given k =
-    let whole = ap (λ p. given ++ p) same ∙ (f s.most (packed s before) given k.writer).file in
-    (take cut.0 piece, cut.1, subst (λ w. IsFront (given ++ take cut.0 piece) w) whole (front_of_front cut.0 given piece (whole_front (given ++ piece))))
+pub breaks_file : (tf : Option (List ℕ)) (w : BlockWriter) (last : Finished) (old new : Option Contents) (name piece : List ℕ) → Finishes tf w last → piece ≡ last.bytes → (n : ℕ) × Extends old new name (take n piece) → BreaksFile tf w old new name
+breaks_file tf w last old new name piece f same cut most done given k =
+    let whole = ap (λ p. given ++ p) same ∙ (f most done given k).file in
+    (take cut.0 piece, cut.1, subst (λ x. IsFront (given ++ take cut.0 piece) x) whole (front_of_front cut.0 given piece (whole_front (given ++ piece))))
 
 same_sum : (n n' b b' d d' l l' : ℕ) → n ≡ n' → b ≡ b' → d ≡ d' → l ≡ l' → (let x : Sum = record { rows = n; blocks = b; dropped = d; bytes = l } in let y : Sum = record { rows = n'; blocks = b'; dropped = d'; bytes = l' } in x ≡ y)
 same_sum n n' b b' d d' l l' p q r t = rw (p, q, r, t) refl
 
-pub sums_up : (s : Settings) (r : PackedRows) (last : Finished) (sum : PackSum) → Finishes s.time_field r.writer last → sum.rows ≡ last.rows → sum.blocks ≡ last.blocks → sum.dropped ≡ r.dropped → sum.bytes ≡ last.length
-    → SumsUp s r (sum_view sum)
+pub sums_up : (tf : Option (List ℕ)) (r : PackedRows) (last : Finished) (sum : PackSum) → Finishes tf r.writer last → sum.rows ≡ last.rows → sum.blocks ≡ last.blocks → sum.dropped ≡ r.dropped → sum.bytes ≡ last.length
+    → SumsUp tf r (sum_view sum)
+sums_up tf r last sum f n b d l most done given k =
+    let h = f most done given k in
+    same_sum _ _ _ _ _ _ _ _ (n ∙ h.rows) (b ∙ h.blocks) d (l ∙ h.length)
+
+pub sum_lines : (s : Settings) (lines : List (List ℕ)) (given : List ℕ) (r : PackedRows) (sum : Sum) → HasRead s lines given r → sum ≡ sum_for s.time_field s.most (packed s lines) r.dropped → sum ≡ counted (sum_of s lines)
 unfolding sum_of
-sums_up s r last sum f n b d l before given k =
-    let h = f s.most (packed s before) given k.writer in
-    same_sum _ _ _ _ _ _ _ _ (n ∙ h.rows) (b ∙ h.blocks) (d ∙ k.dropped) (l ∙ h.length)
+sum_lines s lines given r sum k e = e ∙ same_sum _ _ _ _ _ _ _ _ refl refl k.dropped refl
