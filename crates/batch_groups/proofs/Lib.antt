@@ -5,3 +5,4 @@ pub mod Merged
 pub mod Summing
 pub mod Showing
 pub mod Summaries
+pub mod KeyByKey

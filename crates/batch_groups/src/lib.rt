@@ -3,7 +3,10 @@
 //! `let mut sink = GroupSink::new(alloc, &job, limit, seed)?;`, a scan into it, and `sink.finish(alloc, &job)?`.
 #![tactic(auto)]
 
+mod adding;
 mod joining;
+mod lane_keys;
+mod looks;
 mod operands;
 mod sink;
 

@@ -1,27 +1,26 @@
 //! The groups of the rows that pass.
 
-ghost use Rattle.std.specs.Prelude.{◌≡◌, ◌≤◌, ◌++◌, ◌∷◌, [], List, true, false, map, length, All, OnOk, IfOk, IfSome};
+ghost use Rattle.std.specs.Prelude.{◌≡◌, List, true, map, All, IfOk, IfSome};
 ghost use Rattle.value_meaning.specs.Val.{Val};
-ghost use Rattle.snel_values.specs.View.{views};
-ghost use Rattle.hash_agg.specs.Groups.{Keyed, GroupsStandFor};
-ghost use Rattle.hash_agg.specs.Items.{ShowsAll};
-ghost use Rattle.batch_groups.specs.Gathered.{Gathered, StandFor, AreOf, Grew, IsEmptyFor};
+ghost use Rattle.hash_agg.specs.Groups.{Keyed};
+ghost use Rattle.batch_groups.specs.Gathered.{Gathered, StandFor, Grew, IsEmptyFor};
 ghost use Rattle.batch_groups.specs.OfQuery.{FinishesAs, MakesGroups, with_empty_row};
 ghost use Rattle.tree_meaning.specs.Tree.{Query};
 ghost use Rattle.check_meaning.specs.Aggregates.{is_grouped};
 ghost use Rattle.program_meaning.specs.Simulation.{Simulates};
 ghost use Rattle.block_lines.specs.RowLines.{kept_rows};
 ghost use Rattle.worker_merge.specs.Growing.{GrewSomehow};
-ghost use Rattle.group_out.specs.Summaries.{IsPrintable, IsPrintableRow};
+ghost use Rattle.group_out.specs.Summaries.{IsPrintableRow};
 
+use crate::adding::add_lane;
 use crate::joining::join_groups;
 use crate::operands::see_operands;
 use agg_laws::Seen;
 use block_file::Block;
-use block_lines::{LineHeads, RowSink, values_of};
-use hash_agg::{GroupFault, GroupRows, Groups, empty_row};
+use block_lines::{LineHeads, RowSink};
+use hash_agg::{GroupRows, Groups, empty_row};
 use lane_ssa::{EndAggs, Frame, Job};
-use snel_values::{OutOfMemory, Value};
+use snel_values::OutOfMemory;
 use std::alloc::Global;
 use std::hash::DefaultHasher;
 use std::marker::Model;
@@ -160,15 +159,17 @@ impl RowSink for GroupSink {
             return Ok(());
         }
         let ends = frame.job().ends();
-        let keys = values_of(alloc, frame, block.table(), &ends.groups, lane)?;
         see_operands(frame, &ends.aggs, lane, &mut self.shown)?;
-        let keys = keys.as_slice();
         let shown = self.shown.as_slice();
-        add_row(
+        add_lane(
+            alloc,
             &mut self.groups,
             &mut self.count,
             &mut self.over,
-            keys,
+            frame,
+            block.table(),
+            &ends.groups,
+            lane,
             shown,
         )
     }
@@ -218,41 +219,4 @@ impl SharedSink for GroupSink {
     ghost fresh_takes = { λ s empty job h k. fresh_takes s empty job h k };
 
     ghost begins_still = { λ a b empty job rows h k. begins_still a b empty job rows h k };
-}
-
-/// Adds a row to the group of its keys, or notes that there would be more groups than the limit.
-fn add_row(
-    groups: &mut Groups,
-    count: &mut u64,
-    over: &mut bool,
-    keys: &[Value],
-    shown: &[Seen],
-) -> Result<(), OutOfMemory>
-    requires one_each { length shown.now ≡ length groups.old.names }
-    requires shown { (operands : List Val) × ShowsAll shown.now operands × All IsPrintable operands }
-    requires printable { All IsPrintable (views keys.now) }
-    requires few { AreOf groups.old count.old }
-    requires open { over.old ≡ false }
-    ensures few { AreOf groups.new count.new }
-    ensures names { groups.new.names ≡ groups.old.names }
-    ensures limit { groups.new.limit ≡ groups.old.limit }
-    ensures stand { (operands : List Val) (rows : List Keyed) → ShowsAll shown.now operands
-        → GroupsStandFor groups.old.names groups.old.entries rows
-        → OnOk result (StandFor groups.new over.new (rows ++ (views keys.now, operands) ∷ [])) }
-{
-    if *count >= MOST_ROWS {
-        return Err(OutOfMemory);
-    }
-    groups.know();
-    match groups.add(keys, shown) {
-        Ok(()) => {
-            *count += 1;
-            Ok(())
-        }
-        Err(GroupFault::Over) => {
-            *over = true;
-            Ok(())
-        }
-        Err(GroupFault::OutOfMemory) => Err(OutOfMemory),
-    }
 }

@@ -1,12 +1,12 @@
 ghost use Rattle.std.specs.Prelude.{◌≡◌, ◌^◌, ◌-◌, length, map, IfOk, [], MatchOption, None, ◌<◌};
-ghost use Rattle.snel_values.specs.View.{views};
 ghost use Rattle.hash_agg.specs.Groups.{joined_all, partials_of};
 ghost use Rattle.agg_laws.specs.Parts.{part_name, part_kept};
 ghost use Rattle.hash_agg.specs.Items.{alone_all, EachHasRoom, EachTwoHaveRoom};
 ghost use Rattle.hash_agg.specs.Entries.{entry_of, names_of, with_row, with_group};
 
+use crate::keys::RowKeys;
 use agg_laws::{AnyPart, Seen};
-use snel_values::{Items, OutOfMemory, Value};
+use snel_values::{Items, OutOfMemory};
 use std::alloc::Global;
 use tree_meaning::AggName;
 
@@ -19,18 +19,18 @@ pub struct Group {
 
 impl Group {
     /// The group of one row.
-    pub fn of(
+    pub fn of<K: RowKeys>(
         alloc: Global,
         aggs: &[AggName],
-        keys: &[Value],
+        keys: &K,
         items: &[Seen],
     ) -> Result<Group, OutOfMemory>
         requires { length items.now ≡ length aggs.now }
         ensures names { IfOk result (λ g. names_of g ≡ aggs.now) }
-        ensures entry { IfOk result (λ g. entry_of g ≡ (views keys.now, alone_all aggs.now items.now)) }
+        ensures entry { IfOk result (λ g. entry_of g ≡ (K.values keys.now, alone_all aggs.now items.now)) }
     {
         let mut group = Group {
-            keys: copy_keys(alloc, keys)?,
+            keys: keys.build(alloc)?,
             parts: no_parts(alloc, aggs)?,
         };
         group.add(items);
@@ -94,15 +94,4 @@ pub fn add_each(parts: &mut [AnyPart], items: &[Seen])
     for i in 0..parts.len() {
         parts[i].add(items[i]);
     }
-}
-
-/// A copy of a key list.
-pub fn copy_keys(alloc: Global, keys: &[Value]) -> Result<Items, OutOfMemory>
-    ensures { IfOk result (λ copied. copied ≡ views keys.now) }
-{
-    let mut copied = Items::new(alloc);
-    for key in keys {
-        copied.push(key.copy(alloc)?)?;
-    }
-    Ok(copied)
 }

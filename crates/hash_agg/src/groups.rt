@@ -1,6 +1,5 @@
 ghost use Rattle.std.specs.Prelude.{◌≡◌, ◌<◌, ◌≤◌, ◌^◌, ◌-◌, ◌↔◌, [], List, Some, None, Err, length, map, IfOk, OnOk, OnErr, MatchOption, slice_index_or, ◌+◌, All, vec_len, vec_capacity};
 ghost use Rattle.value_meaning.specs.Val.{Val};
-ghost use Rattle.snel_values.specs.View.{views};
 ghost use Rattle.agg_meaning.specs.Partials.{Partial};
 ghost use Rattle.hash_agg.specs.Groups.{Entry, partials_at, merged_at, AreApart};
 ghost use Rattle.hash_agg.specs.Items.{alone_all, EachHasRoom, EachTwoHaveRoom};
@@ -15,8 +14,9 @@ use crate::fault::GroupFault;
 use crate::finish::{GroupRows, finished};
 use crate::group::Group;
 use crate::index::Index;
+use crate::keys::RowKeys;
 use agg_laws::Seen;
-use snel_values::{OutOfMemory, Value};
+use snel_values::OutOfMemory;
 use std::alloc::Global;
 use std::hash::DefaultHasher;
 use std::marker::Model;
@@ -56,7 +56,7 @@ fn one_if_new(index: &Index, all: &[Group], group: &Group) -> usize
     requires covers { Covers index.now (map entry_of all.now) }
     ensures { result ≡ one_if_none (partials_at group.now.keys (map entry_of all.now)) }
 {
-    match index.find(all, group.keys.as_slice()) {
+    match index.find(all, &group.keys) {
         Some(_) => 0,
         None => 1,
     }
@@ -89,7 +89,7 @@ fn join_one(alloc: Global, index: &mut Index, all: &mut Vec<Group>, group: Group
     ensures named { All (λ x. names_of x ≡ names_of group) all.new.items }
     ensures joins { (ls : List Val) → partials_at ls (map entry_of all.new.items) ≡ merged_at (names_of group) (partials_at ls (map entry_of all.old.items)) (only_at group.keys (entry_of group).1 ls) }
 {
-    match index.find(all.as_slice(), group.keys.as_slice()) {
+    match index.find(all.as_slice(), &group.keys) {
         Some(at) => all[at].merge(&group),
         None => match all.push(group) {
             Ok(()) => index.cover(alloc, all.as_slice()),
@@ -159,11 +159,11 @@ impl Groups {
     }
 
     /// Adds a row to the group of its key list: one item for each aggregate.
-    pub fn add(&mut self, keys: &[Value], items: &[Seen]) -> Result<(), GroupFault>
+    pub fn add<K: RowKeys>(&mut self, keys: &K, items: &[Seen]) -> Result<(), GroupFault>
         requires one_each { length items.now ≡ length self.old.names }
-        requires room { (ss : List Partial) → partials_at (views keys.now) self.old.entries ≡ Some ss → EachHasRoom self.old.names ss }
-        ensures ok { OnOk result (Joins (only_at (views keys.now) (alone_all self.old.names items.now)) self.old self.new) }
-        ensures over { (result ≡ Err Over) ↔ (partials_at (views keys.now) self.old.entries ≡ None) × (self.old.limit ≤ length self.old.entries) }
+        requires room { (ss : List Partial) → partials_at (K.values keys.now) self.old.entries ≡ Some ss → EachHasRoom self.old.names ss }
+        ensures ok { OnOk result (Joins (only_at (K.values keys.now) (alone_all self.old.names items.now)) self.old self.new) }
+        ensures over { (result ≡ Err Over) ↔ (partials_at (K.values keys.now) self.old.entries ≡ None) × (self.old.limit ≤ length self.old.entries) }
         ensures err { OnErr result (self.new ≡ self.old) }
     {
         match self.index.find(self.all.as_slice(), keys) {

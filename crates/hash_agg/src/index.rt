@@ -1,15 +1,13 @@
 ghost use Rattle.std.specs.Prelude.{◌≡◌, ◌<◌, ◌≤◌, ℕ, true, false, List, None, MatchOption, length, map, take, slice_index_or};
-ghost use Rattle.snel_values.specs.View.{views};
 ghost use Rattle.key_places.specs.Placed.{IsReached};
 ghost use Rattle.hash_agg.specs.Groups.{Entry, partials_at};
 ghost use Rattle.hash_agg.specs.Entries.{entry_of};
 ghost use Rattle.hash_agg.specs.Covers.{Covers, HasNone, IsNotAt};
 
 use crate::group::Group;
-use crate::keys::same_keys;
+use crate::keys::RowKeys;
 use key_places::{PlaceRow, hash_values, probe16, put, row_at, rows_of, tag_of};
 use lane_base::LaneMask;
-use snel_values::Value;
 use std::alloc::Global;
 use std::hash::DefaultHasher;
 
@@ -41,12 +39,12 @@ impl Index {
     }
 
     /// The place of the group with these keys, if there is one.
-    pub fn find(&self, all: &[Group], keys: &[Value]) -> Option<usize>
+    pub fn find<K: RowKeys>(&self, all: &[Group], keys: &K) -> Option<usize>
         requires { Covers self.now (map entry_of all.now) }
         ensures { MatchOption result
-            (partials_at (views keys.now) (map entry_of all.now) ≡ None)
+            (partials_at (K.values keys.now) (map entry_of all.now) ≡ None)
             (λ i. (i < length all.now)
-            × ((e : Entry) → (slice_index_or (map entry_of all.now) i e).0 ≡ views keys.now)) }
+            × ((e : Entry) → (slice_index_or (map entry_of all.now) i e).0 ≡ K.values keys.now)) }
     {
         match self.find_covered(all, keys) {
             Some(at) => Some(at),
@@ -55,14 +53,14 @@ impl Index {
     }
 
     /// The place of the group with these keys, if there is one among those that are covered.
-    fn find_covered(&self, all: &[Group], keys: &[Value]) -> Option<usize>
+    fn find_covered<K: RowKeys>(&self, all: &[Group], keys: &K) -> Option<usize>
         requires { Covers self.now (map entry_of all.now) }
         ensures { MatchOption result
-            (partials_at (views keys.now) (take (length self.now.hashes.items) (map entry_of all.now)) ≡ None)
+            (partials_at (K.values keys.now) (take (length self.now.hashes.items) (map entry_of all.now)) ≡ None)
             (λ i. (i < length all.now)
-            × ((e : Entry) → (slice_index_or (map entry_of all.now) i e).0 ≡ views keys.now)) }
+            × ((e : Entry) → (slice_index_or (map entry_of all.now) i e).0 ≡ K.values keys.now)) }
     {
-        let hash = hash_values(&self.seed, keys);
+        let hash = keys.hash(&self.seed);
         let hashes = self.hashes.as_slice();
         let rows = self.rows.as_slice();
         let count = rows.len();
@@ -136,18 +134,18 @@ fn put_in(rows: &mut Vec<PlaceRow>, hash: u64, number: u32) -> bool
 }
 
 /// The place of the group with these keys, if one of the numbers of the row is it.
-fn find_in_row(
+fn find_in_row<K: RowKeys>(
     row: &PlaceRow,
     hash: u64,
     hashes: &[u64],
     all: &[Group],
-    keys: &[Value],
+    keys: &K,
 ) -> Option<usize>
     requires few { length hashes.now ≤ length all.now }
     ensures { MatchOption result
-        (HasNone hash hashes.now (views keys.now) (map entry_of all.now) row.now)
+        (HasNone hash hashes.now (K.values keys.now) (map entry_of all.now) row.now)
         (λ i. (i < length all.now)
-        × ((e : Entry) → (slice_index_or (map entry_of all.now) i e).0 ≡ views keys.now)) }
+        × ((e : Entry) → (slice_index_or (map entry_of all.now) i e).0 ≡ K.values keys.now)) }
 {
     let found = LaneMask(probe16(&row.tags, tag_of(hash)));
     for place in 0..16u32 {
@@ -162,12 +160,12 @@ fn find_in_row(
 }
 
 /// Whether the group at a place has these keys: they are compared where the hash is the same.
-fn is_at(number: usize, hash: u64, hashes: &[u64], all: &[Group], keys: &[Value]) -> bool
+fn is_at<K: RowKeys>(number: usize, hash: u64, hashes: &[u64], all: &[Group], keys: &K) -> bool
     requires few { length hashes.now ≤ length all.now }
     ensures at { result ≡ true → (number < length all.now)
-        × ((e : Entry) → (slice_index_or (map entry_of all.now) number e).0 ≡ views keys.now) }
+        × ((e : Entry) → (slice_index_or (map entry_of all.now) number e).0 ≡ K.values keys.now) }
     ensures not { result ≡ false
-        → IsNotAt hash hashes.now (views keys.now) (map entry_of all.now) number }
+        → IsNotAt hash hashes.now (K.values keys.now) (map entry_of all.now) number }
 {
     if number >= hashes.len() {
         return false;
@@ -177,20 +175,20 @@ fn is_at(number: usize, hash: u64, hashes: &[u64], all: &[Group], keys: &[Value]
         return false;
     }
     let group = &all[number];
-    same_keys(keys, group.keys.as_slice())
+    keys.are(group.keys.as_slice())
 }
 
 /// The place of the group with these keys, which is none of those before.
-fn find_from(all: &[Group], from: usize, keys: &[Value]) -> Option<usize>
+fn find_from<K: RowKeys>(all: &[Group], from: usize, keys: &K) -> Option<usize>
     requires before { from ≤ length all.now }
-    requires none { partials_at (views keys.now) (take from (map entry_of all.now)) ≡ None }
+    requires none { partials_at (K.values keys.now) (take from (map entry_of all.now)) ≡ None }
     ensures { MatchOption result
-        (partials_at (views keys.now) (map entry_of all.now) ≡ None)
+        (partials_at (K.values keys.now) (map entry_of all.now) ≡ None)
         (λ i. (i < length all.now)
-        × ((e : Entry) → (slice_index_or (map entry_of all.now) i e).0 ≡ views keys.now)) }
+        × ((e : Entry) → (slice_index_or (map entry_of all.now) i e).0 ≡ K.values keys.now)) }
 {
     for i in from..all.len() {
-        if same_keys(keys, all[i].keys.as_slice()) {
+        if keys.are(all[i].keys.as_slice()) {
             return Some(i);
         }
     }

@@ -37,7 +37,7 @@ fn feed(state: &mut DefaultHasher, value: &Value)
         Value::Bool(true) => feed_word(state, 3),
         Value::Int(number) => feed_number(state, 4, *number),
         Value::Time(time) => feed_number(state, 5, i128::from(*time)),
-        Value::Text(text) => feed_text(state, 6, text.as_str()),
+        Value::Text(text) => feed_text(state, 6, text.as_str().as_bytes()),
         Value::List(items) => {
             feed_word(state, 7);
             feed_items(state, items);
@@ -68,7 +68,7 @@ fn feed_pairs(state: &mut DefaultHasher, pairs: &Pairs)
 {
     for at in 0..pairs.len() {
         let (name, value) = pair_at(pairs, at);
-        feed_text(state, 6, name);
+        feed_text(state, 6, name.as_bytes());
         feed(state, value);
     }
 }
@@ -87,29 +87,29 @@ fn pair_at<'b>(pairs: &'b Pairs, at: usize) -> (&'b str, &'b Value)
     }
 }
 
-/// Feeds a number of 64 bits.
+/// Feeds a number of 64 bits: of a value, the number of its kind. 0 is MISSING, 1 NULL, 2 false and 3 true.
 #[tactic(auto, unfolding(crate::specs::Hashes::with_word))]
-fn feed_word(state: &mut DefaultHasher, word: u64)
+pub fn feed_word(state: &mut DefaultHasher, word: u64)
     ensures { state.new ≡ with_word word state.old }
 {
     state.write_u64(word);
 }
 
-/// Feeds the number of a kind and a whole number.
+/// Feeds the number of a kind and a whole number. 4 is a whole number, 5 a time.
 #[tactic(auto, unfolding(crate::specs::Hashes::with_number))]
-fn feed_number(state: &mut DefaultHasher, kind: u64, number: i128)
+pub fn feed_number(state: &mut DefaultHasher, kind: u64, number: i128)
     ensures { state.new ≡ with_number number (with_word kind state.old) }
 {
     feed_word(state, kind);
     state.write_i128(number);
 }
 
-/// Feeds the number of a kind, and a text after its length.
+/// Feeds the number of a kind, and the bytes of a text after their length. 6 is a text.
 #[tactic(auto, unfolding(crate::specs::Hashes::with_text))]
-fn feed_text(state: &mut DefaultHasher, kind: u64, text: &str)
+pub fn feed_text(state: &mut DefaultHasher, kind: u64, text: &[u8])
     ensures { state.new ≡ with_text text.now (with_word kind state.old) }
 {
     feed_word(state, kind);
     feed_word(state, text.len() as u64);
-    state.write(text.as_bytes());
+    state.write(text);
 }

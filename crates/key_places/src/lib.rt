@@ -10,7 +10,7 @@ mod row;
 mod rows;
 mod tags;
 
-pub use hashing::hash_values;
+pub use hashing::{feed_number, feed_text, feed_word, hash_values};
 pub use row::PlaceRow;
 pub use rows::{put, row_at, rows_of};
 pub use tags::{probe16, tag_of};

@@ -1,5 +1,4 @@
 use Rattle.std.proofs.Common.{◌≡◌, ◌∙◌, ◌<◌, List, None, sym, ap, subst, refl, arith, map, length, get_or}
-use Rattle.snel_values.specs.View.{views}
 use Rattle.hash_agg.specs.Groups.{Entry, partials_at, AreApart}
 use Rattle.hash_agg.specs.declared.group.Group.{Group}
 use Rattle.hash_agg.specs.Items.{EachTwoHaveRoom}
@@ -16,7 +15,7 @@ merge-requires-clause-room c =
     let g = c.index_mut.result.now in
     let ks = c.args.group.keys in
     let v = c.as_slice.ensures.value in
-    let place = λ (e : Entry). subst (λ (l : List Group). (e : Entry) → (get_or (map entry_of l) at e).0 ≡ views c.as_slice-2.result.now) v c.in-Some.ensures.1 e ∙ c.as_slice-2.ensures in
+    let place = λ (e : Entry). subst (λ (l : List Group). (e : Entry) → (get_or (map entry_of l) at e).0 ≡ ks) v c.in-Some.ensures.1 e in
     let below : at < length all = let k = ap length v in omega (arith, c.in-Some.ensures.0) in
     let is = c.index_mut.ensures.value in
     let apart = c.requires.apart in
@@ -31,7 +30,7 @@ returns-in-Some-clause-len c =
     let g = c.index_mut.result.now in
     let ks = c.args.group.keys in
     let v = c.as_slice.ensures.value in
-    let place = λ (e : Entry). subst (λ (l : List Group). (e : Entry) → (get_or (map entry_of l) at e).0 ≡ views c.as_slice-2.result.now) v c.in-Some.ensures.1 e ∙ c.as_slice-2.ensures in
+    let place = λ (e : Entry). subst (λ (l : List Group). (e : Entry) → (get_or (map entry_of l) at e).0 ≡ ks) v c.in-Some.ensures.1 e in
     let below : at < length all = let k = ap length v in omega (arith, c.in-Some.ensures.0) in
     let is = c.index_mut.ensures.value in
     let apart = c.requires.apart in
@@ -47,7 +46,7 @@ returns-in-Some-clause-apart c =
     let g = c.index_mut.result.now in
     let ks = c.args.group.keys in
     let v = c.as_slice.ensures.value in
-    let place = λ (e : Entry). subst (λ (l : List Group). (e : Entry) → (get_or (map entry_of l) at e).0 ≡ views c.as_slice-2.result.now) v c.in-Some.ensures.1 e ∙ c.as_slice-2.ensures in
+    let place = λ (e : Entry). subst (λ (l : List Group). (e : Entry) → (get_or (map entry_of l) at e).0 ≡ ks) v c.in-Some.ensures.1 e in
     let below : at < length all = let k = ap length v in omega (arith, c.in-Some.ensures.0) in
     let is = c.index_mut.ensures.value in
     let apart = c.requires.apart in
@@ -62,7 +61,7 @@ returns-in-Some-clause-joins c =
     let g = c.index_mut.result.now in
     let ks = c.args.group.keys in
     let v = c.as_slice.ensures.value in
-    let place = λ (e : Entry). subst (λ (l : List Group). (e : Entry) → (get_or (map entry_of l) at e).0 ≡ views c.as_slice-2.result.now) v c.in-Some.ensures.1 e ∙ c.as_slice-2.ensures in
+    let place = λ (e : Entry). subst (λ (l : List Group). (e : Entry) → (get_or (map entry_of l) at e).0 ≡ ks) v c.in-Some.ensures.1 e in
     let below : at < length all = let k = ap length v in omega (arith, c.in-Some.ensures.0) in
     let is = c.index_mut.ensures.value in
     let apart = c.requires.apart in
@@ -77,7 +76,7 @@ returns-in-Some-clause-covers c =
     let g = c.index_mut.result.now in
     let ks = c.args.group.keys in
     let v = c.as_slice.ensures.value in
-    let place = λ (e : Entry). subst (λ (l : List Group). (e : Entry) → (get_or (map entry_of l) at e).0 ≡ views c.as_slice-2.result.now) v c.in-Some.ensures.1 e ∙ c.as_slice-2.ensures in
+    let place = λ (e : Entry). subst (λ (l : List Group). (e : Entry) → (get_or (map entry_of l) at e).0 ≡ ks) v c.in-Some.ensures.1 e in
     let below : at < length all = let k = ap length v in omega (arith, c.in-Some.ensures.0) in
     let is = c.index_mut.ensures.value in
     let apart = c.requires.apart in
@@ -89,7 +88,7 @@ returns-in-Ok-clause-apart c =
     let names = names_of c.args.group in
     let all = c.args.all.now.items in
     let ks = c.args.group.keys in
-    let none : partials_at ks (map entry_of all) ≡ None = (λ i. partials_at (sym c.as_slice-2.ensures i) (map entry_of (sym c.as_slice.ensures.value i))) ∙ c.in-None.ensures in
+    let none : partials_at ks (map entry_of all) ≡ None = (λ i. partials_at ks (map entry_of (sym c.as_slice.ensures.value i))) ∙ c.in-None.ensures in
     let pushed = c.in-Ok.ensures.items in
     subst (λ (l : List Group). AreApart (map entry_of l)) (sym pushed) (new_apart names all ks (entry_of c.args.group).1 c.args.group none refl c.requires.apart)
 
@@ -98,6 +97,6 @@ returns-in-Ok-clause-joins c ls =
     let names = names_of c.args.group in
     let all = c.args.all.now.items in
     let ks = c.args.group.keys in
-    let none : partials_at ks (map entry_of all) ≡ None = (λ i. partials_at (sym c.as_slice-2.ensures i) (map entry_of (sym c.as_slice.ensures.value i))) ∙ c.in-None.ensures in
+    let none : partials_at ks (map entry_of all) ≡ None = (λ i. partials_at ks (map entry_of (sym c.as_slice.ensures.value i))) ∙ c.in-None.ensures in
     let pushed = c.in-Ok.ensures.items in
     ap (λ l. partials_at ls (map entry_of l)) pushed ∙ new_joins names all ks (entry_of c.args.group).1 c.args.group none refl ls

@@ -1,6 +1,7 @@
-use Rattle.std.proofs.Common.{◌≡◌, ◌+◌, ◌<◌, ◌*◌, length, suc, arith}
+use Rattle.std.proofs.Common.{◌≡◌, ◌∙◌, ap, ◌+◌, ◌<◌, ◌*◌, length, suc, arith}
 use Rattle.value_meaning.specs.Val.{vals, fields, size, vals_size, fields_size}
 use Rattle.snel_values.specs.View.{view}
+use Rattle.key_places.specs.Hashes.{with_word, with_text}
 use Rattle.key_places.proofs.Feeding.{item_smaller, value_smaller, pair_fed}
 use Rattle.key_places.proofs.hashing.+feed.Goals as goal
 
@@ -15,4 +16,4 @@ feed_pairs-feed-requires t c =
     omega (arith, falls, c.decreases)
 
 pub feed_pairs-loop-at-preserved : goal.feed_pairs-loop-at-preserved
-feed_pairs-loop-at-preserved t c = pair_fed c.args.pairs.now c.loop-at.at c.pair_at.result.0.now (view c.pair_at.result.1.now) _ _ _ _ c.pair_at.ensures c.feed_text.ensures c.feed.ensures c.loop-at.invariant
+feed_pairs-loop-at-preserved t c = pair_fed c.args.pairs.now c.loop-at.at c.pair_at.result.0.now (view c.pair_at.result.1.now) _ _ _ _ c.pair_at.ensures (c.feed_text.ensures ∙ ap (λ bytes. with_text bytes (with_word 6 c.loop-at.state)) c.as_bytes.ensures.value) c.feed.ensures c.loop-at.invariant

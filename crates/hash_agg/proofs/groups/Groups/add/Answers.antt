@@ -1,6 +1,5 @@
 use Rattle.std.proofs.Common.{rules, ◌≡◌, ◌∙◌, ◌<◌, ◌≤◌, List, [], ◌∷◌, ◌++◌, None, sym, ap, subst, refl, arith, map, length, get_or}
 use Rattle.std.proofs.lemmas.List.{length-set, length-append}
-use Rattle.snel_values.specs.View.{views}
 use Rattle.hash_agg.specs.Groups.{Entry, partials_at, AreApart}
 use Rattle.value_meaning.specs.Val.{Val}
 use Rattle.hash_agg.specs.declared.group.Group.{Group}
@@ -13,12 +12,12 @@ use Rattle.hash_agg.proofs.Rows.{HaveNames, here_room, here_found, there_apart, 
 use Rattle.hash_agg.proofs.groups.Groups.add.Goals as goal
 
 pub add-requires-clause-room : goal.add-requires-clause-room
-add-requires-clause-room c =
+add-requires-clause-room w c =
     let names = c.self.inside.aggs.items in
     let all = c.self.inside.all.items in
     let at = c.in-Some.at in
     let g = c.index_mut.result.now in
-    let ks = views c.args.keys.now in
+    let ks = w.K.RowKeys.values c.args.keys.now in
     let v = c.as_slice.ensures.value in
     let place = subst (λ (l : List Group). (e : Entry) → (get_or (map entry_of l) at e).0 ≡ ks) v c.in-Some.ensures.1 in
     let below : at < length all = let k = ap length v in omega (arith, c.in-Some.ensures.0) in
@@ -28,12 +27,12 @@ add-requires-clause-room c =
     here_room names all at g ks below is apart named place (λ ss e. subst (λ ns. EachHasRoom ns ss) (sym (ap (λ (h : Held). h.names) c.self.view_is)) (c.requires.room ss (ap (λ (h : Held). partials_at ks h.entries) (sym c.self.view_is) ∙ e)))
 
 pub invariant_of-self : goal.invariant_of-self
-invariant_of-self c =
+invariant_of-self w c =
     let names = c.self.inside.aggs.items in
     let all = c.self.inside.all.items in
     let at = c.in-Some.at in
     let g = c.index_mut.result.now in
-    let ks = views c.args.keys.now in
+    let ks = w.K.RowKeys.values c.args.keys.now in
     let v = c.as_slice.ensures.value in
     let place = subst (λ (l : List Group). (e : Entry) → (get_or (map entry_of l) at e).0 ≡ ks) v c.in-Some.ensures.1 in
     let below : at < length all = let k = ap length v in omega (arith, c.in-Some.ensures.0) in
@@ -45,12 +44,12 @@ invariant_of-self c =
     (there_apart names all at g ks below is apart named place c.add.new.self c.args.items.now c.add.ensures.names c.add.ensures.entry, there_named names all at g ks below is apart named place c.add.new.self c.args.items.now c.add.ensures.names c.add.ensures.entry, omega arith, there_covers names all at g ks below is apart named place c.add.new.self c.args.items.now c.add.ensures.names c.add.ensures.entry c.self.inside.index c.self.invariant.3)
 
 pub returns-in-Some-clause-ok : goal.returns-in-Some-clause-ok
-returns-in-Some-clause-ok c =
+returns-in-Some-clause-ok w c =
     let names = c.self.inside.aggs.items in
     let all = c.self.inside.all.items in
     let at = c.in-Some.at in
     let g = c.index_mut.result.now in
-    let ks = views c.args.keys.now in
+    let ks = w.K.RowKeys.values c.args.keys.now in
     let v = c.as_slice.ensures.value in
     let place = subst (λ (l : List Group). (e : Entry) → (get_or (map entry_of l) at e).0 ≡ ks) v c.in-Some.ensures.1 in
     let below : at < length all = let k = ap length v in omega (arith, c.in-Some.ensures.0) in
@@ -60,12 +59,12 @@ returns-in-Some-clause-ok c =
     moved (λ ns. only_at ks (alone_all ns c.args.items.now)) _ _ _ c.self.view_is (record { names = refl; limit = refl; entries = there_joins names all at g ks below is apart named place c.add.new.self c.args.items.now c.add.ensures.names c.add.ensures.entry })
 
 pub returns-in-Some-clause-over : goal.returns-in-Some-clause-over
-returns-in-Some-clause-over c =
+returns-in-Some-clause-over w c =
     let names = c.self.inside.aggs.items in
     let all = c.self.inside.all.items in
     let at = c.in-Some.at in
     let g = c.index_mut.result.now in
-    let ks = views c.args.keys.now in
+    let ks = w.K.RowKeys.values c.args.keys.now in
     let v = c.as_slice.ensures.value in
     let place = subst (λ (l : List Group). (e : Entry) → (get_or (map entry_of l) at e).0 ≡ ks) v c.in-Some.ensures.1 in
     let below : at < length all = let k = ap length v in omega (arith, c.in-Some.ensures.0) in
@@ -76,11 +75,11 @@ returns-in-Some-clause-over c =
     (λ e. cc, λ n. let none : partials_at ks (map entry_of all) ≡ None = ap (λ (h : Held). partials_at ks h.entries) c.self.view_is ∙ n.0 in cc)
 
 pub invariant_of-self-in-None : goal.invariant_of-self-in-None
-invariant_of-self-in-None c =
+invariant_of-self-in-None w c =
     let names = c.self.inside.aggs.items in
     let all = c.self.inside.all.items in
     let group = c.in_ok-group-in-None.group in
-    let ks = views c.args.keys.now in
+    let ks = w.K.RowKeys.values c.args.keys.now in
     let states = alone_all names c.args.items.now in
     let none : partials_at ks (map entry_of all) ≡ None = ap (λ l. partials_at ks (map entry_of l)) (sym c.as_slice.ensures.value) ∙ c.in-None.ensures in
     let a = c.as_slice-in-None.ensures.value in
@@ -94,11 +93,11 @@ invariant_of-self-in-None c =
     (three.0, three.1, three.2, search rules)
 
 pub returns-in-Ok-clause-ok : goal.returns-in-Ok-clause-ok
-returns-in-Ok-clause-ok c =
+returns-in-Ok-clause-ok w c =
     let names = c.self.inside.aggs.items in
     let all = c.self.inside.all.items in
     let group = c.in_ok-group-in-None.group in
-    let ks = views c.args.keys.now in
+    let ks = w.K.RowKeys.values c.args.keys.now in
     let states = alone_all names c.args.items.now in
     let none : partials_at ks (map entry_of all) ≡ None = ap (λ l. partials_at ks (map entry_of l)) (sym c.as_slice.ensures.value) ∙ c.in-None.ensures in
     let a = c.as_slice-in-None.ensures.value in

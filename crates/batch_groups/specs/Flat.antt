@@ -1,0 +1,23 @@
+-- Keys that are compared where they lie.
+use Rattle.std.specs.Prelude.{◌≡◌, ℕ, ◌<◌, false, List, All, length, map}
+use Rattle.value_meaning.specs.Val.{Val}
+use Rattle.block_meaning.specs.Tables.{Table}
+use Rattle.program_meaning.specs.Registers.{value_at}
+use Rattle.lane_base.specs.Shown.{is_nested}
+use Rattle.lane_base.specs.Registers.{AreLegal}
+use Rattle.lane_ssa.specs.Frames.{FrameView, state_at}
+
+-- the values of the registers in a lane
+abbrev pub values_in : Table → FrameView → List ℕ → ℕ → List Val
+values_in table frame registers lane = map (value_at (state_at table frame lane)) registers
+
+-- none is a list or a struct
+abbrev pub IsFlat : Table → FrameView → ℕ → ℕ → Type 0
+IsFlat table frame lane r = is_nested (value_at (state_at table frame lane) r) ≡ false
+
+-- the registers are there, what they show is legal under the table, and no list or struct is among it
+pub record AreFlat (table : Table) (frame : FrameView) (registers : List ℕ) (lane : ℕ) : Type 0 where
+  pub below : lane < 16
+  pub legal : All (AreLegal table) frame.values
+  pub within : All (λ r. r < length frame.values) registers
+  pub flat : All (IsFlat table frame lane) registers
