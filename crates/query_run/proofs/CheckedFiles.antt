@@ -13,7 +13,7 @@ use Rattle.scan_meaning.specs.Answers.{IsPrefix}
 use Rattle.scan_meaning.specs.Checks.{Checked, sound, absent_file, other_file, bad_block, or_bad, checked_from, ChecksAs, check_line, check_lines, before_refused, check_statuses, EndsCheck}
 use Rattle.scan_meaning.proofs.Named.{one_named, named_count}
 use Rattle.query_run.specs.declared.query_fault.QueryFault.{QueryFault}
-use Rattle.query_run.specs.declared.query_fault.QueryFault.TheVariants.{Text, Absent, NotAFile, Damaged, ReadFault, WriteFault, OutOfMemory}
+use Rattle.query_run.specs.declared.query_fault.QueryFault.TheVariants.{Text, Absent, NotAFile, Damaged, Groups, ReadFault, WriteFault, OutOfMemory}
 use Rattle.query_run.specs.Statuses.{status_of}
 use Rattle.query_run.specs.Checking.{HasCheckCause, SaysOfOne, IsOfFiles}
 use Rattle.query_run.proofs.SomeNamed.{all_some}
@@ -267,6 +267,7 @@ module _ (files : Contents) (names : List (List ℕ)) (k : ℕ) (name : List ℕ
       (none_added old now new (check_lines names (take k All)) p.wrote s) ([], sym (append-nil (check_lines names (take k All))))
       (late_here k p.few p.same)
   ends_here (Text f) s = absurd s
+  ends_here Groups s = absurd s
 
   pub absent_here : (j : ℕ) → Says (Err (Absent j)) → ChecksAs names files (absent_file j)
   absent_here j s = record { files_are = All; are = are; is = ap absent_file s.0 ∙ sym (against absent s.1) }
@@ -320,3 +321,4 @@ caused_here A names told k name at old now new p ReadFault of_files s = tt
 caused_here A names told k name at old now new p WriteFault of_files s = tt
 caused_here A names told k name at old now new p OutOfMemory of_files s = tt
 caused_here A names told k name at old now new p (Text f) of_files s = absurd of_files
+caused_here A names told k name at old now new p Groups of_files s = absurd of_files

@@ -7,7 +7,7 @@ use Rattle.program_meaning.specs.Jobs.{Job}
 use Rattle.program_meaning.specs.Simulation.{Simulates}
 use Rattle.plan_lower.specs.Listing.{listing_text}
 use Rattle.query_run.specs.declared.query_fault.QueryFault.{QueryFault}
-use Rattle.query_run.specs.declared.query_fault.QueryFault.TheVariants.{Text, Absent, NotAFile, Damaged, ReadFault, WriteFault, OutOfMemory}
+use Rattle.query_run.specs.declared.query_fault.QueryFault.TheVariants.{Text, Absent, NotAFile, Damaged, Groups, ReadFault, WriteFault, OutOfMemory}
 use Rattle.query_run.specs.Queries.{Accepts}
 use Rattle.query_run.specs.Jobs.{Compiles}
 use Rattle.query_run.specs.Statuses.{status_of}
@@ -39,6 +39,7 @@ not_compiled sql OutOfMemory a h = record {
 not_compiled sql (Absent k) a h = absurd h
 not_compiled sql (NotAFile k) a h = absurd h
 not_compiled sql (Damaged f b) a h = absurd h
+not_compiled sql Groups a h = absurd h
 not_compiled sql ReadFault a h = absurd h
 not_compiled sql WriteFault a h = absurd h
 

@@ -1,9 +1,10 @@
-mod Forms
 mod Sink
-mod Plain
 pub mod Nothing
 mod Explaining
-mod Ending
+mod Refusing
+mod Surveyed
+mod PlainEnding
+mod GatheredEnding
 mod Asking
 pub mod Built
 mod SomeNamed

@@ -1,50 +1,30 @@
 -- How a call may end that found no memory before it did anything.
-use Rattle.std.proofs.Common.{◌≡◌, ℕ, zero, suc, ◌≤◌, List, [], Option, Some, refl, arith}
+use Rattle.std.proofs.Common.{◌≡◌, ℕ, zero, suc, List, [], Option, refl, arith}
+use Rattle.std.proofs.Math.Logic.{⊎_elim}
 use Rattle.snel_device.specs.Contents.{Contents}
-use Rattle.tree_meaning.specs.Tree.{Query}
-use Rattle.scan_meaning.specs.Blocks.{Block, Place}
-use Rattle.scan_meaning.specs.Verdicts.{Verdict, no_such_file, no_block_file, scan, untold, statuses, IsAmong, Finds}
-use Rattle.scan_meaning.specs.Answers.{EndsAs, EndsScan}
-use Rattle.scan_meaning.specs.Causes.{StaysWithin}
-use Rattle.scan_meaning.specs.Headline.{AnswersFiles}
-use Rattle.scan_meaning.specs.Checks.{Checked, sound, absent_file, other_file, bad_block, check_statuses, check_lines, before_refused, checked_from, ChecksAs, EndsCheck}
-use Rattle.query_run.specs.Queries.{Accepts}
+use Rattle.scan_meaning.specs.Verdicts.{IsAmong}
+use Rattle.scan_meaning.specs.Checks.{Checked, sound, absent_file, other_file, bad_block, check_statuses, check_lines, checked_from}
 use Rattle.query_run.specs.Headline.{Headline}
 use Rattle.query_run.specs.Ends.{Ends, Reads}
 use Rattle.query_run.specs.Checking.{Checks}
-use Rattle.query_run.proofs.Forms.{lowered_is_unsorted}
-use Rattle.query_run.proofs.Plain.{nothing}
+use Rattle.scan_meaning.proofs.Arranged.{adds_nothing}
+use Rattle.query_run.proofs.Refusing.{memory_end}
 use Rattle.query_run.proofs.Sink.{Keeps-same, Appends-nothing}
 
-unsorted : (sql : List ℕ) (q : Query) → Accepts sql q → q.order ≡ []
-unsorted sql q accepts = lowered_is_unsorted q accepts.built
-
-pub memory_allowed : (v : Verdict) → IsAmong 10 (statuses v)
-memory_allowed (no_such_file zero) = refl
-memory_allowed (no_such_file (suc k)) = refl
-memory_allowed (no_block_file k) = refl
-memory_allowed (scan bs n) = refl
-memory_allowed untold = refl
-
-ends_as : (q : Query) → q.order ≡ [] → (v : Verdict) (a : Option (List ℕ)) → EndsAs q v 10 a a
-ends_as q none (no_such_file k) a = record { allowed = memory_allowed (no_such_file k); wrote = Keeps-same a }
-ends_as q none (no_block_file k) a = record { allowed = refl; wrote = Keeps-same a }
-ends_as q none (scan bs n) a = record {
-  allowed = refl;
-  wrote = record { bad = λ e. absurd (omega arith); passed = λ e. absurd (omega arith); wrote = nothing q none _ 10 a (λ e. omega arith) };
-}
-ends_as q none untold a = record { allowed = refl; wrote = ([], Appends-nothing a) }
-
-pub ends : (sql : List ℕ) (names : List (List ℕ)) (told : Option Contents) (a : Option (List ℕ)) → Ends sql names told 10 a a
-ends sql names told a = record {
+pub ends : (sql : List ℕ) (limit : ℕ) (names : List (List ℕ)) (told : Option Contents) (a : Option (List ℕ)) → Ends sql limit names told 10 a a
+ends sql limit names told a = record {
   refused = λ r. refl;
   unwritten = λ r. Keeps-same a;
-  accepted = λ q v accepts found. ends_as q (unsorted sql q accepts) v a;
+  accepted = λ q v accepts found. memory_end q limit v a;
 }
 
-pub headline : (sql : List ℕ) (names : List (List ℕ)) (told : Option Contents) (a : Option (List ℕ)) → Headline sql names told 10 a a
-headline sql names told a = record {
-  of_query = λ q accepts. record { answers = λ files os rows tells are rows_are sound. nothing q (unsorted sql q accepts) rows 10 a (λ e. omega arith) };
+pub headline : (sql : List ℕ) (limit : ℕ) (names : List (List ℕ)) (told : Option Contents) (a : Option (List ℕ)) → Headline sql limit names told 10 a a
+headline sql limit names told a = record {
+  of_query = λ q accepts. record {
+    answers = λ files os rows tells are rows_are sound. adds_nothing q rows 10 a a (λ e. omega arith) (Keeps-same a);
+    over = λ e. absurd (omega arith);
+    within = λ e. absurd (⊎_elim (λ (x : 10 ≡ 0). omega arith) (λ (x : 10 ≡ 9). omega arith) e);
+  };
 }
 
 pub reads : (sql : List ℕ) (names : List (List ℕ)) (told : Option Contents) (n : ℕ) → Reads sql names told n n

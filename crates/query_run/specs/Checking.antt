@@ -9,7 +9,7 @@ use Rattle.scan_meaning.specs.Opened.{Opened, absent, no_file, opened, IsNamed, 
 use Rattle.scan_meaning.specs.Answers.{IsPrefix}
 use Rattle.scan_meaning.specs.Checks.{Checked, sound, absent_file, other_file, bad_block, ChecksAs, EndsCheck, check_line}
 use Rattle.query_run.specs.declared.query_fault.QueryFault.{QueryFault}
-use Rattle.query_run.specs.declared.query_fault.QueryFault.TheVariants.{Text, Absent, NotAFile, Damaged, ReadFault, WriteFault, OutOfMemory}
+use Rattle.query_run.specs.declared.query_fault.QueryFault.TheVariants.{Text, Absent, NotAFile, Damaged, Groups, ReadFault, WriteFault, OutOfMemory}
 
 -- where files tell, checking these names ended so, whatever the files are found to be
 abbrev pub Checks : List (List ℕ) → Option Contents → ℕ → Option (List ℕ) → Option (List ℕ) → Type 0
@@ -24,6 +24,7 @@ HasCheckCause names told (Err (NotAFile k)) = ForSome told (λ files. ChecksAs n
 HasCheckCause names told (Err (Damaged file block)) =
     ForSome told (λ files. (p : Place) × (p.block ≡ block) × ChecksAs names files (bad_block file p))
 HasCheckCause names told (Err (Text f)) = ⊥
+HasCheckCause names told (Err Groups) = ⊥
 HasCheckCause names told (Err fault) = ⊤
 
 -- What checking the file of this name, which has this number, says of it, and what is written: its line where no block is bad, at a failed
@@ -39,10 +40,12 @@ SaysOfOne file name n (Err WriteFault) old new =
     (o : Opened) × (added : List ℕ) × IsNamed file (opened o) × (first_bad (blocks_of n o) ≡ None) × Appends old new added × IsPrefix added (check_line name o.entries)
 SaysOfOne file name n (Err OutOfMemory) old new = Appends old new []
 SaysOfOne file name n (Err (Text f)) old new = ⊥
+SaysOfOne file name n (Err Groups) old new = ⊥
 
--- the answer is of the files, and of no text
+-- the answer is of the files, and neither of a text nor of groups
 abbrev pub IsOfFiles : {A : Type 0} → Result A QueryFault → Type 0
 IsOfFiles (Err (Text f)) = ⊥
+IsOfFiles (Err Groups) = ⊥
 IsOfFiles result = ⊤
 
 -- a put answers no other fault

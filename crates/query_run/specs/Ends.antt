@@ -10,10 +10,10 @@ use Rattle.query_run.specs.Queries.{Accepts, IsRefused}
 
 -- A text that isn't answered ends with status 3 or want of memory, and nothing is written. An accepted one ends as each verdict allows that the
 -- names and the files give rise to; there is at most one, and where files hold bytes there is one.
-pub record Ends (sql : List ℕ) (names : List (List ℕ)) (told : Option Contents) (status : ℕ) (old new : Option (List ℕ)) : Type 0 where
+pub record Ends (sql : List ℕ) (limit : ℕ) (names : List (List ℕ)) (told : Option Contents) (status : ℕ) (old new : Option (List ℕ)) : Type 0 where
   pub refused : IsRefused sql → IsAmong status (3 ∷ 10 ∷ [])
   pub unwritten : IsRefused sql → Keeps old new
-  pub accepted : (q : Query) (v : Verdict) → Accepts sql q → Finds q names told v → EndsAs q v status old new
+  pub accepted : (q : Query) (v : Verdict) → Accepts sql q → Finds q names told v → EndsAs q limit v status old new
 
 -- A count of bytes that were read never falls. It stands still where the text isn't answered, and rises by at most the cost of the verdict
 -- where files tell.

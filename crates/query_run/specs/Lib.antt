@@ -8,3 +8,4 @@ pub mod Jobs
 pub mod Sums
 pub mod Explained
 pub mod Checking
+pub mod Runs

@@ -1,13 +1,14 @@
 -- The status that a command ends with by each fault.
 use Rattle.std.specs.Prelude.{ℕ, ⊤, Result, Ok, Err}
 use Rattle.query_run.specs.declared.query_fault.QueryFault.{QueryFault}
-use Rattle.query_run.specs.declared.query_fault.QueryFault.TheVariants.{Text, Absent, NotAFile, Damaged, ReadFault, WriteFault, OutOfMemory}
+use Rattle.query_run.specs.declared.query_fault.QueryFault.TheVariants.{Text, Absent, NotAFile, Damaged, Groups, ReadFault, WriteFault, OutOfMemory}
 
 abbrev pub status_of : QueryFault → ℕ
 status_of (Text f) = 3
 status_of (Absent k) = 4
 status_of (NotAFile k) = 5
 status_of (Damaged file block) = 6
+status_of Groups = 7
 status_of ReadFault = 8
 status_of WriteFault = 9
 status_of OutOfMemory = 10

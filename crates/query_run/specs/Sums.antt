@@ -5,7 +5,6 @@ use Rattle.snel_device.specs.Contents.{Contents}
 use Rattle.tree_meaning.specs.Tree.{Query}
 use Rattle.answer_meaning.specs.Answers.{limited}
 use Rattle.made_meaning.specs.MadeRows.{made}
-use Rattle.snel_device.specs.Causes.{raised}
 use Rattle.scan_batches.specs.Scans.{chunks_of}
 use Rattle.scan_meaning.specs.Blocks.{Block}
 use Rattle.scan_meaning.specs.Batches.{rows_of, front, count_passed, Counts}
@@ -13,12 +12,11 @@ use Rattle.scan_meaning.specs.Verdicts.{scan, Finds}
 use Rattle.query_run.specs.declared.sum.QuerySum.{QuerySum}
 
 -- What was done with these blocks: the lines that were put, the blocks that were read, the chunks that were run and the rows that passed.
--- Counts of 64 bits stand still at their end.
 pub record SumsTo (q : Query) (bs : List Block) (sum : QuerySum) : Type 0 where
-  pub lines : sum.lines ≡ raised 0 (length (limited q.take (drop q.skip (made q (rows_of bs)))))
+  pub lines : sum.lines ≡ length (limited q.take (drop q.skip (made q (rows_of bs))))
   pub read : sum.read ≡ length bs
-  pub chunks : sum.ran.chunks ≡ raised 0 (chunks_of bs)
-  pub kept : sum.ran.kept ≡ raised 0 (count_passed q bs)
+  pub chunks : sum.ran.chunks ≡ chunks_of bs
+  pub kept : sum.ran.kept ≡ count_passed q bs
 
 -- The sum is that of the blocks in the batches that count, beside so many that were left out.
 pub record Sums (q : Query) (bs : List Block) (left_out : ℕ) (sum : QuerySum) : Type 0 where

@@ -1,6 +1,7 @@
 //! From the text of a query to its job.
-ghost use Rattle.std.specs.Prelude.{ℕ, List, IfOk, IfErr};
+ghost use Rattle.std.specs.Prelude.{◌≡◌, ℕ, List, IfOk, IfErr};
 ghost use Rattle.query_meaning.specs.Faults.{ComesTo, is_query};
+ghost use Rattle.scan_meaning.specs.Batches.{is_plain};
 ghost use Rattle.query_run.specs.Jobs.{Compiles};
 ghost use Rattle.query_run.specs.Faults.{SaysOfText};
 
@@ -8,7 +9,7 @@ use crate::accept::accept;
 use crate::query_fault::QueryFault;
 use crate::text_fault::TextFault;
 use lane_ssa::Job;
-use plan_lower::{is_lowered, lower};
+use plan_lower::lower;
 use query_check::Checked;
 use snel_values::OutOfMemory;
 use std::alloc::Global;
@@ -32,11 +33,18 @@ pub(crate) fn job_of(alloc: Global, checked: &Checked) -> Result<Job, QueryFault
         (λ fault. (sql : List ℕ) → ComesTo sql (is_query checked.now) → SaysOfText sql fault) }
 {
     checked.know();
-    if !is_lowered(checked.query()) {
+    if !is_built(checked) {
         return Err(QueryFault::Text(TextFault::NotBuilt));
     }
     match lower(alloc, checked) {
         Ok(job) => Ok(job),
         Err(OutOfMemory) => Err(QueryFault::OutOfMemory),
     }
+}
+
+/// Whether queries of its form are answered.
+fn is_built(checked: &Checked) -> bool
+    ensures { result ≡ is_plain checked.now }
+{
+    !checked.grouped() && checked.query().order.len() == 0
 }

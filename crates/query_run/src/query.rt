@@ -1,57 +1,62 @@
 //! A query over files: from its text to its lines.
-ghost use Rattle.std.specs.Prelude.{◌≡◌, ◌≤◌, true, length, IfOk, IsErrOf};
+ghost use Rattle.std.specs.Prelude.{◌≡◌, ◌<◌, ◌≤◌, true, length, IfOk, IsErrOf};
 ghost use Rattle.snel_device.specs.Causes.{Rose};
 ghost use Rattle.tree_meaning.specs.Tree.{Query as QueryTree};
 ghost use Rattle.query_tree.specs.Queries.{query_view};
 ghost use Rattle.program_meaning.specs.Simulation.{Simulates};
 ghost use Rattle.scan_meaning.specs.Batches.{is_plain};
-ghost use Rattle.scan_meaning.specs.Verdicts.{Verdict, Finds};
-ghost use Rattle.scan_meaning.specs.Answers.{EndsAs};
-ghost use Rattle.scan_meaning.specs.Causes.{StaysWithin};
 ghost use Rattle.query_run.specs.Queries.{Accepts};
 ghost use Rattle.query_run.specs.Statuses.{status_after, IsAbsent};
 ghost use Rattle.query_run.specs.Headline.{Headline};
 ghost use Rattle.query_run.specs.Ends.{Ends, Reads};
-ghost use Rattle.query_run.specs.Faults.{HasItsCause, SaysOfQuery, IsQuiet, StopsSo, query_fault, scan_fault};
+ghost use Rattle.query_run.specs.Faults.{HasItsCause, IsQuiet, StopsSo, query_fault};
+ghost use Rattle.query_run.specs.Runs.{RunsTo};
 ghost use Rattle.query_run.specs.Sums.{SumsUp};
 
 use crate::accept::accept;
 use crate::compile::job_of;
+use crate::plain::run_plain;
 use crate::query_fault::QueryFault;
+use crate::settings::Settings;
 use crate::sum::QuerySum;
-use batch_lines::JobScanner;
 use lane_ssa::Job;
 use query_tree::Query;
-use scan_batches::{Cut, ScanFault, scan_all};
 use scan_files::{FilesFault, find_places};
-use snel_device::{Files, Out};
+use snel_device::{Files, Gate, Out};
 use snel_values::Words;
 use std::alloc::Global;
+use std::thread::Threads;
 
 /// Answers a query over 1 to 64 files: reads the index of each, then the blocks that the WHERE doesn't exclude by the times
 /// that the index tells, 64 at a time, and puts one line for each row that passes, as OFFSET and LIMIT let them through. The
-/// lines of 64 blocks are put before the next are read, and a LIMIT that is full ends the reading.
-pub fn run_query<F: Files, O: Out>(
+/// lines of 64 blocks are put before the next are read, and a LIMIT that is full ends the reading. Blocks are scanned by so many
+/// workers as the settings say, from 1 to 64, each of which passes the gate with a block's number in its batch.
+pub fn run_query<R: Threads + Sync, F: Files, O: Out, G: Gate + Sync>(
+    rt: &R,
     alloc: Global,
     sql: &str,
     names: &Words,
+    settings: &Settings,
     files: &mut F,
     out: &mut O,
+    gate: &G,
 ) -> Result<QuerySum, QueryFault>
     requires some { 1 ≤ length names.now }
     requires few { length names.now ≤ 64 }
+    requires some_workers { 0 < settings.now.workers }
+    requires few_workers { settings.now.workers ≤ 64 }
 
     // The bytes written are those of an answer for the rows of the files: all of them at Ok, else a prefix.
-    ensures headline { Headline sql.now names.now (F.told files.old) (status_after result)
+    ensures headline { Headline sql.now settings.now.groups names.now (F.told files.old) (status_after result)
         (O.holds out.old) (O.holds out.new) }
 
     // The answer is Ok, or the first fault that the text, the names and the files give rise to.
-    ensures ends { Ends sql.now names.now (F.told files.old) (status_after result) (O.holds out.old)
+    ensures ends { Ends sql.now settings.now.groups names.now (F.told files.old) (status_after result) (O.holds out.old)
         (O.holds out.new) }
-    ensures cause { HasItsCause sql.now names.now (F.told files.old) result }
+    ensures cause { HasItsCause sql.now settings.now.groups names.now (F.told files.old) result }
     ensures quiet { IsQuiet result (O.holds out.old) (O.holds out.new) }
 
-    // At a bad block and at a failed read whole batches of lines are written.
+    // At a bad block and at a failed read whole batches of lines are written, and none of a query that sorts or groups.
     ensures stopped { (q : QueryTree) → Accepts sql.now q
         → StopsSo q names.now (F.told files.old) result (F.taken files.old) (F.taken files.new)
         (O.holds out.old) (O.holds out.new) }
@@ -78,34 +83,39 @@ pub fn run_query<F: Files, O: Out>(
         Ok(job) => job,
         Err(fault) => return Err(fault),
     };
-    run_job(alloc, checked.query(), &job, names, files, out)
+    run_job(
+        rt,
+        alloc,
+        checked.query(),
+        &job,
+        names,
+        settings,
+        files,
+        out,
+        gate,
+    )
 }
 
 // Answers a query that the job simulates.
-fn run_job<F: Files, O: Out>(
+fn run_job<R: Threads + Sync, F: Files, O: Out, G: Gate + Sync>(
+    _rt: &R,
     alloc: Global,
     query: &Query,
     job: &Job,
     names: &Words,
+    settings: &Settings,
     files: &mut F,
     out: &mut O,
+    _gate: &G,
 ) -> Result<QuerySum, QueryFault>
     requires some { 1 ≤ length names.now }
     requires few { length names.now ≤ 64 }
+    requires some_workers { 0 < settings.now.workers }
+    requires few_workers { settings.now.workers ≤ 64 }
     requires simulates { Simulates job.now (query_view query.now) }
     requires plain { is_plain (query_view query.now) ≡ true }
-    ensures ends { (v : Verdict) → Finds (query_view query.now) names.now (F.told files.old) v
-        → EndsAs (query_view query.now) v (status_after result) (O.holds out.old)
-        (O.holds out.new) }
-    ensures cause { SaysOfQuery (query_view query.now) names.now (F.told files.old) result }
-    ensures quiet { IsQuiet result (O.holds out.old) (O.holds out.new) }
-    ensures stopped { StopsSo (query_view query.now) names.now (F.told files.old) result
-        (F.taken files.old) (F.taken files.new) (O.holds out.old) (O.holds out.new) }
-    ensures later { F.taken files.old ≤ F.taken files.new }
-    ensures taken { StaysWithin (query_view query.now) names.now (F.told files.old)
-        (F.taken files.old) (F.taken files.new) }
-    ensures sum { IfOk result
-        (λ s. SumsUp (query_view query.now) names.now (F.told files.old) s) }
+    ensures ran { RunsTo (query_view query.now) settings.now.groups names.now (F.told files.old)
+        result (F.taken files.old) (F.taken files.new) (O.holds out.old) (O.holds out.new) }
     ensures absent { IsAbsent result → Rose (F.misses files.old) (F.misses files.new) }
     ensures read_fault { IsErrOf result QueryFault.ReadFault
         → Rose (F.read_faults files.old) (F.read_faults files.new) }
@@ -118,31 +128,7 @@ fn run_job<F: Files, O: Out>(
         Ok(found) => found,
         Err(fault) => return Err(of_files(fault)),
     };
-    let Ok(mut scanner) = JobScanner::new(alloc, query, job) else {
-        return Err(QueryFault::OutOfMemory);
-    };
-    let cut = Cut {
-        skip: query.skip,
-        take: query.take,
-    };
-    match scan_all(
-        alloc,
-        &mut scanner,
-        &cut,
-        names,
-        &found.fields,
-        &found.places,
-        files,
-        out,
-    ) {
-        Ok(done) => Ok(QuerySum {
-            lines: done.lines,
-            read: done.read,
-            skipped: found.skipped,
-            ran: scanner.into_tally(),
-        }),
-        Err(fault) => Err(of_scan(fault)),
-    }
+    run_plain(alloc, query, job, names, settings, &found, files, out)
 }
 
 // What stands against the files, as a fault of the query.
@@ -154,17 +140,5 @@ fn of_files(fault: FilesFault) -> QueryFault
         FilesFault::NotAFile(number) => QueryFault::NotAFile(number),
         FilesFault::ReadFault => QueryFault::ReadFault,
         FilesFault::OutOfMemory => QueryFault::OutOfMemory,
-    }
-}
-
-// What stands against the blocks, as a fault of the query.
-fn of_scan(fault: ScanFault) -> QueryFault
-    ensures { result ≡ scan_fault fault }
-{
-    match fault {
-        ScanFault::Damaged { file, block } => QueryFault::Damaged { file, block },
-        ScanFault::ReadFault => QueryFault::ReadFault,
-        ScanFault::WriteFault => QueryFault::WriteFault,
-        ScanFault::OutOfMemory => QueryFault::OutOfMemory,
     }
 }

@@ -17,6 +17,8 @@ pub enum QueryFault {
         /// The block's number in the file.
         block: u32,
     },
+    /// There are more groups than the limit.
+    Groups,
     /// Asking for a file's size or reading it failed.
     ReadFault,
     /// A put to the output failed.

@@ -1,6 +1,8 @@
 -- Gathering the rows of blocks, batch by batch.
-use Rattle.std.proofs.Common.{◌≡◌, ℕ, ◌+◌, ◌*◌, ◌^◌, ◌≤◌, ◌/◌, min, List, [], ◌++◌, length, take, drop, Option, Some, None, refl, sym, ap, ◌∙◌, subst, arith, take-append-drop}
+use Rattle.std.proofs.Common.{◌≡◌, ℕ, ◌+◌, ◌*◌, ◌^◌, ◌<◌, ◌≤◌, ◌/◌, min, List, [], ◌++◌, length, take, drop, Option, Some, None, refl, sym, ap, ◌∙◌, subst, arith, take-append-drop}
 use Rattle.std.specs.Option.{ForSome}
+use Rattle.std.proofs.Math.Logic.{⊎_elim}
+use Rattle.std.proofs.lemmas.Bool.{cases_lt}
 use Rattle.std.proofs.lemmas.List.{take_all, length-append, length-map, length-take}
 use Rattle.std.proofs.lemmas.List.Sums.{sum_by-append, sum_by-take-le}
 use Rattle.snel_device.specs.Contents.{Contents}
@@ -10,13 +12,13 @@ use Rattle.tree_meaning.specs.Tree.{Query}
 use Rattle.eval_meaning.specs.Pair.{Pair}
 use Rattle.eval_meaning.specs.Passed.{passed}
 use Rattle.scan_meaning.specs.Blocks.{Place, Block}
-use Rattle.scan_meaning.specs.Batches.{rows_of, is_bad, first_bad, count_passed, front, batch}
-use Rattle.scan_meaning.proofs.Batches.{front_more, rows-append, find_behind, find_before}
+use Rattle.scan_meaning.specs.Batches.{rows_of, is_bad, first_bad, count_passed, size_of, front, batch}
+use Rattle.scan_meaning.proofs.Batches.{front_more, rows-append, size_within, find_behind, find_before}
 use Rattle.scan_meaning.proofs.Plain.{passed-append}
 use Rattle.scan_files.specs.Places.{block_at, blocks_at, room_of}
-use Rattle.scan_files.proofs.Parts.{batch_at}
+use Rattle.scan_files.proofs.Parts.{batch_at, room_more, room_front}
 use Rattle.scan_batches.specs.Scans.{chunks_of, NamesBlock}
-use Rattle.scan_batches.specs.Gathers.{HasRoom, Gathers, Gathered}
+use Rattle.scan_batches.specs.Gathers.{HasRoom, Gathers, Gathered, StopsGathering}
 use Rattle.scan_batches.specs.declared.fault.ScanFault.{ScanFault}
 use Rattle.scan_batches.specs.declared.fault.ScanFault.TheVariants.{Damaged, ReadFault, WriteFault, OutOfMemory}
 use Rattle.scan_batches.proofs.Few.{rows_few, chunks_few, passed_few}
@@ -89,6 +91,20 @@ module _ (told : Option Contents) (q : Query) (names fields : List (List ℕ)) (
     stopped other same ReadFault names_it = λ files is. tt
     stopped other same WriteFault names_it = λ files is. tt
     stopped other same OutOfMemory names_it = λ files is. tt
+
+    -- how far a failed read came
+    pub came_to : (fault : ScanFault) (before mid now : ℕ) → mid ≤ before + room_of (take (64 * j) ps) → now ≤ mid + room_of part → ForSome told (λ files. StopsGathering fault (blocks_at files names fields ps) before now)
+    came_to ReadFault before mid now read more = λ files is.
+        let bs = blocks_at files names fields ps in
+        let e : room_of (take (64 * (j + 1)) ps) ≡ room_of (take (64 * j) ps) + room_of part = room_more j ps part is_part in
+        let f : room_of (take (64 * (j + 1)) ps) ≡ size_of (front (j + 1) bs) = room_front files names fields (j + 1) ps in (
+          j,
+          λ i grown. ⊎_elim (λ (l : j < i). let within : size_of (front (j + 1) bs) ≤ size_of (front i bs) = size_within (j + 1) i bs (omega arith) in absurd (omega arith)) (λ (h : i ≤ j). h) (cases_lt j i),
+          ap (λ (l : List Block). first_bad l) (sym (g.are files is)) ∙ g.good,
+        )
+    came_to (Damaged f n) before mid now read more = λ files is. tt
+    came_to WriteFault before mid now read more = λ files is. tt
+    came_to OutOfMemory before mid now read more = λ files is. tt
 
     -- a batch more
     module _ (other : Option Contents) (same : other ≡ told) (p : Query) (same_query : p ≡ q) (now_stands : List Val → Type 0) (now_chunks now_kept : ℕ) (c : Collected other p names fields part stands now_stands chunks now_chunks kept now_kept) where

@@ -1,11 +1,11 @@
 -- A scan of blocks, batch by batch.
-use Rattle.std.proofs.Common.{◌≡◌, ◌⊎◌, inl, inr, ℕ, zero, suc, ◌+◌, ◌-◌, ◌*◌, ◌<◌, ◌≤◌, ◌/◌, true, List, [], ◌∷◌, ◌++◌, length, drop, map, Option, Some, None, refl, sym, ap, ◌∙◌, subst, arith, take-append-drop}
+use Rattle.std.proofs.Common.{◌≡◌, ◌⊎◌, inl, inr, ℕ, zero, suc, ◌+◌, ◌-◌, ◌*◌, ◌^◌, ◌<◌, ◌≤◌, ◌/◌, min, true, List, [], ◌∷◌, ◌++◌, length, take, drop, map, Option, Some, None, refl, sym, ap, ◌∙◌, subst, arith, take-append-drop}
 use Rattle.std.specs.Prelude.{◌≢◌, IsPermutation}
 use Rattle.std.specs.Option.{option_map}
 use Rattle.std.proofs.Math.Logic.{⊎_elim}
 use Rattle.std.proofs.lemmas.Bool.{cases_lt}
-use Rattle.std.proofs.lemmas.List.{length-append, map-append}
-use Rattle.answer_meaning.specs.Lines.{line_text}
+use Rattle.std.proofs.lemmas.List.{length-append, length-drop, length-take, map-append}
+use Rattle.answer_meaning.specs.Lines.{line_text, print}
 use Rattle.std.proofs.lemmas.List.Sums.{sum_by-append}
 use Rattle.std.proofs.lemmas.List.Sorted.{IsPermutation-refl}
 use Rattle.std.specs.Io.KnownBytes.{Appends}
@@ -18,13 +18,14 @@ use Rattle.answer_meaning.specs.Made.{Made}
 use Rattle.made_meaning.specs.MadeRows.{made}
 use Rattle.scan_meaning.specs.Blocks.{Block}
 use Rattle.scan_meaning.specs.Batches.{rows_of, first_bad, size_of, front, batch, is_plain, need, count_passed, IsShort, BatchCounts, Counts, IsFirstBad}
-use Rattle.scan_meaning.specs.Answers.{AddsAnswer, AddsWhole, StopsAt, StopsReading, IsPrefix}
+use Rattle.scan_meaning.specs.Answers.{AddsAnswer, AddsWhole, StopsAt, StopsReading, StopsPutting, IsPrefix}
 use Rattle.scan_meaning.proofs.Batches.{front_more, rows-append, rows_more, good_more, among, size_within}
-use Rattle.scan_meaning.proofs.Plain.{made-append, made_count, passed-append, needs, adds_more}
+use Rattle.scan_meaning.proofs.Plain.{made-append, made_count, passed-append, needs, cut, outputs_of, unsorted, in_any_order, adds_more}
 use Rattle.scan_batches.specs.Lines.{made_lines, text_of, let_through, left_of}
 use Rattle.scan_batches.specs.Scans.{chunks_of, Scans}
 use Rattle.scan_batches.specs.Outcome.{Finished}
-use Rattle.scan_batches.proofs.Texts.{adds_whole, adds_part, made_long}
+use Rattle.scan_batches.proofs.Few.{rows_few, chunks_few, passed_few}
+use Rattle.scan_batches.proofs.Texts.{text_through, adds_whole, adds_part, made_long}
 
 -- After so many batches: each of them counts, none of their blocks is bad, and these are the lines and the counts of their rows.
 pub record Scanned (q : Query) (bs : List Block) (j : ℕ) (lines : List (List ℕ)) (chunks kept : ℕ) : Type 0 where
@@ -85,6 +86,14 @@ below : (q : Query) (bs : List Block) (j : ℕ) → BatchCounts q bs j → (i : 
 unfolding BatchCounts
 below q bs j counts i lt = λ k le. counts k (omega arith)
 
+-- a count of few stands
+exact : (n : ℕ) → n ≤ 2 ^ 42 → raised 0 n ≡ n
+exact n few = omega arith
+
+fewer_through : (skip : ℕ) (most : Option ℕ) (lines : List (List ℕ)) → length (let_through skip most lines) ≤ length lines
+fewer_through skip None lines = let d = length-drop skip lines in omega arith
+fewer_through skip (Some n) lines = let d = length-drop skip lines in let t = length-take n (drop skip lines) in omega arith
+
 raised_twice : (a m n : ℕ) → raised (raised a m) n ≡ raised a (m + n)
 raised_twice a m n = omega arith
 
@@ -125,17 +134,32 @@ module _ (q : Query) (plain : is_plain q ≡ true) (bs : List Block) (j : ℕ) (
     pub whole : AddsWhole q (rows_of (front j bs)) old now
     whole = adds_whole q plain (rows_of (front j bs)) lines old now s.scans.lines_are appends
 
-    pub finished : (length bs ≤ 64 * j) ⊎ ¬ IsShort (need q) (length lines) → (put read : ℕ) → put ≡ raised 0 (length (let_through q.skip q.take lines)) → read ≡ length (front j bs) → Finished q bs put read chunks kept old now
-    finished last put read put_is read_is = record {
+    pub finished : length bs ≤ 2 ^ 26 → (length bs ≤ 64 * j) ⊎ ¬ IsShort (need q) (length lines) → (put read : ℕ) → put ≡ raised 0 (length (let_through q.skip q.take lines)) → read ≡ length (front j bs) → Finished q bs put read chunks kept old now
+    finished few last put read put_is read_is = record {
       count = j;
       counts = record { each = s.counted; last = ⊎_elim (λ (all : length bs ≤ 64 * j). inl all) (λ (full : ¬ IsShort (need q) (length lines)). inr (subst (λ (n : ℕ). ¬ IsShort (need q) n) long full)) last };
       good = s.scans.good;
       wrote = whole;
-      lines_are = put_is ∙ ap (λ (l : List (List ℕ)). raised 0 (length (let_through q.skip q.take l))) s.scans.lines_are;
+      lines_are = put_is ∙ exact (length (let_through q.skip q.take lines)) few_put ∙ ap (λ (l : List (List ℕ)). length (let_through q.skip q.take l)) s.scans.lines_are;
       read_are = read_is;
-      chunks_are = s.scans.chunks_are;
-      kept_are = s.scans.kept_are;
+      chunks_are = s.scans.chunks_are ∙ exact (chunks_of (front j bs)) few_chunks;
+      kept_are = s.scans.kept_are ∙ exact (count_passed q (front j bs)) few_passed;
     }
+      where
+        front_few : length (front j bs) ≤ 2 ^ 26
+        front_few = let e = length-take (64 * j) bs in omega arith
+
+        few_rows : length (rows_of (front j bs)) ≤ 2 ^ 42
+        few_rows = let e = rows_few (front j bs) in let f = front_few in omega arith
+
+        few_passed : count_passed q (front j bs) ≤ 2 ^ 42
+        few_passed = let e = passed_few q (front j bs) in let f = few_rows in omega arith
+
+        few_chunks : chunks_of (front j bs) ≤ 2 ^ 42
+        few_chunks = let e = chunks_few (front j bs) s.scans.good in let f = front_few in omega arith
+
+        few_put : length (let_through q.skip q.take lines) ≤ 2 ^ 42
+        few_put = let e = fewer_through q.skip q.take lines in let f : length lines ≡ count_passed q (front j bs) = long in let g = few_passed in omega arith
 
     pub stops_at : BatchCounts q bs j → (b : Block) → first_bad (batch j bs) ≡ Some b → StopsAt q bs b old now
     stops_at counts b bad = record { first = record { before = j; counts = counts; good = s.scans.good; bad = bad }; wrote = whole }
@@ -143,9 +167,32 @@ module _ (q : Query) (plain : is_plain q ≡ true) (bs : List Block) (j : ℕ) (
     pub stops_reading : (start taken : ℕ) → taken ≤ start + size_of (front (j + 1) bs) → StopsReading q bs 0 start taken old now
     stops_reading start taken most = record {
       batches = j;
+      good = s.scans.good;
       told = λ i grown. ⊎_elim (λ (l : j < i). let within : size_of (front (j + 1) bs) ≤ size_of (front i bs) = size_within (j + 1) i bs (omega arith) in absurd (omega arith)) (λ (g : i ≤ j). g) (cases_lt j i);
-      wrote = whole;
+      wrote = λ p. whole;
     }
+
+  -- lines of the batch behind these were put, but not all
+  pub stops_putting : BatchCounts q bs j → (more : List (List ℕ)) (new_chunks new_kept : ℕ) → Scans q (batch j bs) more chunks new_chunks kept new_kept → (old new : Option (List ℕ)) (part : List ℕ) → Appends old new (text_of (let_through q.skip q.take lines) ++ part) → IsPrefix (text_of (let_through q.skip q.take lines) ++ part) (text_of (let_through q.skip q.take (lines ++ more))) → StopsPutting q bs old new
+  stops_putting counts more new_chunks new_kept h old new part took prefix =
+      let next = steps counts more new_chunks new_kept h in
+      let xs = rows_of (front j bs) in
+      let ys = rows_of (front (j + 1) bs) in
+      let here : text_of (let_through q.skip q.take lines) ≡ print (cut q.skip q.take (outputs_of (made q xs))) = text_through q xs lines s.scans.lines_are in
+      let there : text_of (let_through q.skip q.take (lines ++ more)) ≡ print (cut q.skip q.take (outputs_of (made q ys))) = text_through q ys (lines ++ more) next.scans.lines_are in
+      record {
+        before = j;
+        counts = counts;
+        good = next.scans.good;
+        outputs = cut q.skip q.take (outputs_of (made q xs));
+        answer = in_any_order q (unsorted q plain) xs (made q xs) (IsPermutation-refl (made q xs));
+        more = cut q.skip q.take (outputs_of (made q ys));
+        extended = in_any_order q (unsorted q plain) ys (made q ys) (IsPermutation-refl (made q ys));
+        added = text_of (let_through q.skip q.take lines) ++ part;
+        appends = took;
+        whole = (part, ap (λ (l : List ℕ). l ++ part) here);
+        some = (prefix.0, sym there ∙ prefix.1);
+      }
 
   -- all rows are those so far and what follows
   all_made : made q (rows_of (front j bs)) ++ made q (rows_of (drop (64 * j) bs)) ≡ made q (rows_of bs)

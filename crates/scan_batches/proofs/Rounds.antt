@@ -1,5 +1,5 @@
 -- A scan of places in files that may be told, while lines are put.
-use Rattle.std.proofs.Common.{◌≡◌, inl, inr, ℕ, ◌+◌, ◌-◌, ◌*◌, ◌<◌, ◌≤◌, min, true, List, [], ◌++◌, length, take, drop, Option, Some, None, refl, sym, ap, ◌∙◌, subst, arith, append_assoc}
+use Rattle.std.proofs.Common.{◌≡◌, inl, inr, ℕ, ◌+◌, ◌-◌, ◌*◌, ◌^◌, ◌<◌, ◌≤◌, min, true, List, [], ◌++◌, length, take, drop, Option, Some, None, refl, sym, ap, ◌∙◌, subst, arith, append_assoc}
 use Rattle.std.specs.Prelude.{◌≢◌, Err}
 use Rattle.std.specs.Option.{ForSome}
 use Rattle.std.specs.Io.KnownBytes.{Appends}
@@ -10,6 +10,7 @@ use Rattle.tree_meaning.specs.Tree.{Query}
 use Rattle.scan_meaning.specs.Blocks.{Place, Block}
 use Rattle.scan_meaning.specs.Batches.{rows_of, first_bad, front, batch, size_of, is_plain, need, IsShort, BatchCounts, Counts}
 use Rattle.scan_meaning.specs.Answers.{AddsAnswer, IsPrefix}
+use Rattle.scan_meaning.specs.Answers.{StopsPutting}
 use Rattle.scan_meaning.proofs.Batches.{among, size_within}
 use Rattle.scan_meaning.proofs.Plain.{cut_both, cut_none}
 use Rattle.scan_files.specs.Places.{block_at, blocks_at, room_of}
@@ -20,7 +21,7 @@ use Rattle.scan_batches.specs.Outcome.{ScansTo, Finished}
 use Rattle.scan_batches.specs.declared.fault.ScanFault.{ScanFault}
 use Rattle.scan_batches.specs.declared.fault.ScanFault.TheVariants.{Damaged, ReadFault, WriteFault, OutOfMemory}
 use Rattle.scan_batches.proofs.Texts.{Appends-both, Appends-nothing, text-append}
-use Rattle.scan_batches.proofs.Progress.{Scanned, nothing_scanned, makes_nothing, is_enough, is_short, opens, steps, finished, stops_at, stops_reading, cut_lines, cost_so_far}
+use Rattle.scan_batches.proofs.Progress.{Scanned, nothing_scanned, makes_nothing, is_enough, is_short, opens, steps, finished, stops_at, stops_reading, stops_putting, cut_lines, cost_so_far}
 
 -- After so many batches: what OFFSET and LIMIT have left, what was put, and, where files are told, what was scanned.
 pub record Underway (told : Option Contents) (q : Query) (names fields : List (List ℕ)) (ps : List Place) (j skip : ℕ) (most : Option ℕ) (put chunks kept : ℕ) (old now : Option (List ℕ)) : Type 0 where
@@ -74,19 +75,20 @@ module _ (told : Option Contents) (q : Query) (plain : is_plain q ≡ true) (nam
   too_few other = is_short q plain (length u.lines) (λ s t. other (u.skip_is ∙ s) (u.most_is ∙ t))
 
   -- the end, since enough rows passed or all blocks are scanned
-  pub ends_full : skip ≡ 0 → most ≡ Some 0 → (read : ℕ) → read ≡ 64 * j → 64 * j ≤ length ps → ForSome told (λ files. Finished q (blocks_at files names fields ps) put read chunks kept old now)
-  ends_full s t read read_is le = λ files is.
+  pub ends_full : length ps ≤ 2 ^ 26 → skip ≡ 0 → most ≡ Some 0 → (read : ℕ) → read ≡ 64 * j → 64 * j ≤ length ps → ForSome told (λ files. Finished q (blocks_at files names fields ps) put read chunks kept old now)
+  ends_full few s t read read_is le = λ files is.
+      let n = count_of files in
       let e = long_front files in
       let read_all : read ≡ length (front j (blocks_at files names fields ps)) = omega arith in
-      finished q plain (blocks_at files names fields ps) j u.lines chunks kept (u.scanned files is) old now u.appends (inr (enough s t)) put read u.put_is read_all
+      finished q plain (blocks_at files names fields ps) j u.lines chunks kept (u.scanned files is) old now u.appends (omega arith) (inr (enough s t)) put read u.put_is read_all
 
-  pub ends_all : (read : ℕ) → read ≡ length ps → length ps ≤ 64 * j → ForSome told (λ files. Finished q (blocks_at files names fields ps) put read chunks kept old now)
-  ends_all read read_is le = λ files is.
+  pub ends_all : length ps ≤ 2 ^ 26 → (read : ℕ) → read ≡ length ps → length ps ≤ 64 * j → ForSome told (λ files. Finished q (blocks_at files names fields ps) put read chunks kept old now)
+  ends_all few read read_is le = λ files is.
       let e = long_front files in
       let n = count_of files in
       let read_all : read ≡ length (front j (blocks_at files names fields ps)) = omega arith in
       let all : length (blocks_at files names fields ps) ≤ 64 * j = omega arith in
-      finished q plain (blocks_at files names fields ps) j u.lines chunks kept (u.scanned files is) old now u.appends (inl all) put read u.put_is read_all
+      finished q plain (blocks_at files names fields ps) j u.lines chunks kept (u.scanned files is) old now u.appends (omega arith) (inl all) put read u.put_is read_all
 
   pub took_some : TakesSome old now
   took_some = (text_of (let_through q.skip q.take u.lines), u.appends)
@@ -166,14 +168,14 @@ module _ (told : Option Contents) (q : Query) (plain : is_plain q ≡ true) (nam
       took_part : (new : Option (List ℕ)) (h : TakesPart now new (text_of (let_through skip most more))) → Appends old new (text_of (let_through q.skip q.take u.lines) ++ h.added)
       took_part new h = Appends-both old now new (text_of (let_through q.skip q.take u.lines)) h.added u.appends h.appends
 
-      pub put_part : (new : Option (List ℕ)) → TakesPart now new (text_of (let_through skip most more)) → ForSome told (λ files. AddsAnswer q (rows_of (blocks_at files names fields ps)) 9 old new)
+      pub put_part : (new : Option (List ℕ)) → TakesPart now new (text_of (let_through skip most more)) → ForSome told (λ files. StopsPutting q (blocks_at files names fields ps) old new)
       put_part new h = λ files is.
           let front_text = text_of (let_through q.skip q.take u.lines) in
           let parts : text_of (let_through q.skip q.take (u.lines ++ more)) ≡ (front_text ++ h.added) ++ h.front.0 = both_text ∙ ap (λ (l : List ℕ). front_text ++ l) h.front.1 ∙ sym (append_assoc front_text h.added h.front.0) in
-          cut_part files is new (front_text ++ h.added) (took_part new h) (h.front.0, parts)
+          stops_putting q plain (blocks_at files names fields ps) j u.lines chunks kept (u.scanned files is) (counts_at files is) more c k (in_batch files is) old new h.added (took_part new h) (h.front.0, parts)
         where
-          cut_part : (files : Contents) → told ≡ Some files → (new : Option (List ℕ)) (added : List ℕ) → Appends old new added → IsPrefix added (text_of (let_through q.skip q.take (u.lines ++ more))) → AddsAnswer q (rows_of (blocks_at files names fields ps)) 9 old new
-          cut_part files is new added took part = cut_lines q plain (blocks_at files names fields ps) (j + 1) (u.lines ++ more) c k (scanned_more files is) 9 (λ e. omega arith) old new added took part
+          in_batch : (files : Contents) → told ≡ Some files → Scans q (batch j (blocks_at files names fields ps)) more chunks c kept k
+          in_batch files is = subst (λ (l : List Block). Scans q l more chunks c kept k) (of_part files) (scans files (same ∙ is))
 
       pub put_some : (new : Option (List ℕ)) → TakesPart now new (text_of (let_through skip most more)) → TakesSome old new
       put_some new h = (text_of (let_through q.skip q.take u.lines) ++ h.added, took_part new h)

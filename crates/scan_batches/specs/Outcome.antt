@@ -1,10 +1,9 @@
 -- What a scan of blocks owes.
 use Rattle.std.specs.Prelude.{◌≡◌, ℕ, List, length, None, Option, Result, Ok, Err}
-use Rattle.snel_device.specs.Causes.{raised}
 use Rattle.tree_meaning.specs.Tree.{Query}
 use Rattle.scan_meaning.specs.Blocks.{Block}
 use Rattle.scan_meaning.specs.Batches.{rows_of, first_bad, front, count_passed, Counts}
-use Rattle.scan_meaning.specs.Answers.{AddsAnswer, AddsWhole, StopsAt, StopsReading}
+use Rattle.scan_meaning.specs.Answers.{AddsAnswer, AddsWhole, StopsAt, StopsReading, StopsPutting}
 use Rattle.scan_batches.specs.Lines.{made_lines, let_through}
 use Rattle.scan_batches.specs.Scans.{chunks_of, IsNumbered}
 use Rattle.scan_batches.specs.declared.scan.Done.{Done}
@@ -17,14 +16,14 @@ pub record Finished (q : Query) (bs : List Block) (lines read chunks kept : ℕ)
   pub counts : Counts q bs count
   pub good : first_bad (front count bs) ≡ None
   pub wrote : AddsWhole q (rows_of (front count bs)) old new
-  pub lines_are : lines ≡ raised 0 (length (let_through q.skip q.take (made_lines q (rows_of (front count bs)))))
+  pub lines_are : lines ≡ length (let_through q.skip q.take (made_lines q (rows_of (front count bs))))
   pub read_are : read ≡ length (front count bs)
-  pub chunks_are : chunks ≡ raised 0 (chunks_of (front count bs))
-  pub kept_are : kept ≡ raised 0 (count_passed q (front count bs))
+  pub chunks_are : chunks ≡ chunks_of (front count bs)
+  pub kept_are : kept ≡ count_passed q (front count bs)
 
 abbrev pub ScansTo : Query → List Block → Result Done ScanFault → ℕ → ℕ → ℕ → ℕ → Option (List ℕ) → Option (List ℕ) → Type 0
 ScansTo q bs (Ok d) before now chunks kept old new = Finished q bs d.lines d.read chunks kept old new
 ScansTo q bs (Err (Damaged file block)) before now chunks kept old new = (b : Block) × IsNumbered b file block × StopsAt q bs b old new
 ScansTo q bs (Err ReadFault) before now chunks kept old new = StopsReading q bs 0 before now old new
-ScansTo q bs (Err WriteFault) before now chunks kept old new = AddsAnswer q (rows_of bs) 9 old new
+ScansTo q bs (Err WriteFault) before now chunks kept old new = StopsPutting q bs old new
 ScansTo q bs (Err OutOfMemory) before now chunks kept old new = AddsAnswer q (rows_of bs) 10 old new

@@ -7,7 +7,7 @@ ghost use Rattle.scan_meaning.specs.Blocks.{Block};
 ghost use Rattle.scan_meaning.specs.Batches.{first_bad};
 ghost use Rattle.scan_files.specs.Places.{blocks_at, IsPlaced, room_of};
 ghost use Rattle.scan_batches.specs.Scans.{IsReading, NamesBlock};
-ghost use Rattle.scan_batches.specs.Gathers.{HasRoom, Gathers, Gathered};
+ghost use Rattle.scan_batches.specs.Gathers.{HasRoom, Gathers, Gathered, StopsGathering};
 
 use crate::collector::BatchCollector;
 use crate::fault::{BatchFault, ScanFault};
@@ -42,6 +42,9 @@ pub fn collect_all<C: BatchCollector, F: Files>(
     ensures bad { IfErr result (λ fault. ForSome (F.told files.old) (λ told. NamesBlock fault
         (λ b. first_bad (blocks_at told names.now fields.now places.now) ≡ Some b))) }
     ensures reading { IfErr result (λ fault. IsReading fault) }
+    ensures stopped { IfErr result (λ fault. ForSome (F.told files.old)
+        (λ told. StopsGathering fault (blocks_at told names.now fields.now places.now)
+        (F.taken files.old) (F.taken files.new))) }
     ensures same { C.query collector.new ≡ C.query collector.old }
     ensures most { F.taken files.new ≤ F.taken files.old + room_of places.now }
     ensures later { F.taken files.old ≤ F.taken files.new }

@@ -1,14 +1,13 @@
 -- Batches of blocks one after the other.
-use Rattle.std.proofs.Common.{◌≡◌, ◌⊎◌, inl, inr, ℕ, zero, suc, ◌+◌, ◌*◌, ◌<◌, ◌≤◌, Bool, true, false, cond, List, [], ◌∷◌, ◌++◌, length, take, drop, Option, Some, None, refl, sym, ap, ◌∙◌, subst, arith, append_assoc, take-append-drop}
-use Rattle.std.specs.Prelude.{find, flat_map, sum_by, unwrap_or}
+use Rattle.std.proofs.Common.{◌≡◌, ℕ, zero, suc, ◌+◌, ◌*◌, ◌<◌, ◌≤◌, Bool, true, false, cond, List, [], ◌∷◌, ◌++◌, length, take, drop, Some, None, refl, sym, ap, ◌∙◌, subst, arith, append_assoc, take-append-drop}
+use Rattle.std.specs.Prelude.{find, unwrap_or}
 use Rattle.std.proofs.Math.Logic.{⊎_elim}
 use Rattle.std.proofs.lemmas.Bool.{cases_lt}
 use Rattle.std.proofs.lemmas.List.{take_all, take-take}
-use Rattle.std.proofs.lemmas.List.Sums.{sum_by-append, sum_by-take-le}
-use Rattle.value_meaning.specs.Val.{Val}
+use Rattle.std.proofs.lemmas.List.Sums.{sum_by-take-le}
 use Rattle.tree_meaning.specs.Tree.{Query}
 use Rattle.scan_meaning.specs.Blocks.{Block, good_rows}
-use Rattle.scan_meaning.specs.Batches.{rows_of, need, count_passed, first_bad, is_bad, size_of, front, batch, IsShort, BatchCounts, Counts, IsFirstBad, MayPass}
+use Rattle.scan_meaning.specs.Batches.{rows_of, need, count_passed, first_bad, is_bad, size_of, front, batch, IsShort, BatchCounts, Counts, IsFirstBad}
 
 nothing_taken : {X : Type 0} (n m : ℕ) (none : List X) → none ≡ [] → take n (drop m none) ≡ []
 nothing_taken zero m [] e = refl

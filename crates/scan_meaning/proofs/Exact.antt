@@ -1,18 +1,18 @@
 -- Blocks, their ranges and their exclusion are exact.
 use Rattle.std.proofs.Common.{◌≡◌, ℕ, zero, suc, ◌<◌, get_or, ℤ, Bool, true, false, cond, eqb, List, [], ◌∷◌, length, Option, Some, None, refl, sym, ap, ◌∙◌, subst, arith}
-use Rattle.std.specs.Prelude.{◌≢◌, ◌↔◌, ◌≤ℤ◌, ◌<ℤ◌, int_le, int_lt, not, ◌&&◌, ◌||◌}
+use Rattle.std.specs.Prelude.{◌↔◌, ◌≤ℤ◌, ◌<ℤ◌, int_le, int_lt, not, ◌&&◌, ◌||◌}
 use Rattle.std.specs.Option.{option_and_then}
 use Rattle.std.specs.List as list
 use Rattle.std.specs.List.{list_all}
 use Rattle.std.specs.Int.{int_min, int_max}
 use Rattle.std.proofs.lemmas.Int.{ints, clamps}
 use Rattle.std.proofs.lemmas.Bool.Decides.{nat_tests}
-use Rattle.value_meaning.specs.Val.{Val, Vals, Fields, missing, null, truth, int, time, text, list as list_of, struct}
+use Rattle.value_meaning.specs.Val.{Val, missing, null, truth, int, time, text, list as list_of, struct}
 use Rattle.block_meaning.specs.Tables.{Table}
 use Rattle.block_meaning.specs.Blocks.{IsBlock, IsDamaged, block_in}
 use Rattle.block_meaning.proofs.BlockReading.{blocks_read, damaged_none, damaged_count}
 use Rattle.file_meaning.specs.Files.{Entry}
-use Rattle.tree_meaning.specs.Tree.{name, Query}
+use Rattle.tree_meaning.specs.Tree.{name}
 use Rattle.eval_meaning.specs.Paths.{step_of}
 use Rattle.range_meaning.specs.declared.Bounds.{Bounds}
 use Rattle.range_meaning.specs.declared.Bounds.TheVariants.{All, Between}

@@ -5,3 +5,6 @@ mod Some
 pub mod Plain
 mod Splits
 pub mod Ended
+pub mod Sorting
+pub mod Arranged
+pub mod Shuffled

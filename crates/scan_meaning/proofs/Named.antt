@@ -1,14 +1,13 @@
 -- What the named files are, one after the other.
-use Rattle.std.proofs.Common.{◌≡◌, ℕ, zero, suc, ◌+◌, ◌<◌, ◌≤◌, List, [], ◌∷◌, ◌++◌, length, take, map, Option, Some, None, refl, sym, ap, ◌∙◌, subst, arith, append_assoc}
+use Rattle.std.proofs.Common.{◌≡◌, ℕ, zero, suc, ◌+◌, List, [], ◌∷◌, ◌++◌, length, take, map, Option, Some, None, refl, sym, ap, ◌∙◌, subst, arith, append_assoc}
 use Rattle.std.specs.Prelude.{slice_get, unwrap_or}
 use Rattle.std.proofs.lemmas.List.{append-nil}
 use Rattle.snel_device.specs.Contents.{Contents}
 use Rattle.file_meaning.specs.Files.{Entry, IsFile}
-use Rattle.file_meaning.specs.Laws.{OneIndex}
 use Rattle.tree_meaning.specs.Tree.{Query}
 use Rattle.scan_meaning.specs.Blocks.{Block}
 use Rattle.scan_meaning.specs.Opened.{Opened, Named, absent, no_file, opened, IsNamed, AreNamed, blocks_of, blocks_from}
-use Rattle.scan_meaning.specs.Verdicts.{Verdict, no_such_file, no_block_file, scan, untold, refusal, wanted, skipped, verdict_of, FindsInFiles, Finds}
+use Rattle.scan_meaning.specs.Verdicts.{Verdict, scan, refusal, wanted, skipped, verdict_of, FindsInFiles, Finds}
 use Rattle.file_meaning.proofs.Spelled.{file_reads}
 use Rattle.file_meaning.proofs.Believed.{inside}
 

@@ -1,6 +1,6 @@
 -- Answers of a query that neither groups nor sorts, for rows and for more rows.
-use Rattle.std.proofs.Common.{◌≡◌, ◌⊎◌, inl, inr, ℕ, zero, suc, ◌+◌, ◌-◌, ◌<◌, ◌≤◌, Bool, true, false, not, List, [], ◌∷◌, ◌++◌, length, take, drop, map, filter, Option, Some, None, refl, sym, ap, ◌∙◌, subst, arith, append_assoc}
-use Rattle.std.specs.Prelude.{IsPermutation, IsSortedByKey, flat_map, ◌&&◌, ◌==◌}
+use Rattle.std.proofs.Common.{◌≡◌, ◌⊎◌, ℕ, zero, suc, ◌+◌, ◌-◌, ◌<◌, ◌≤◌, Bool, true, false, not, List, [], ◌∷◌, ◌++◌, length, take, drop, map, filter, Option, Some, None, refl, sym, ap, ◌∙◌, subst, arith, append_assoc}
+use Rattle.std.specs.Prelude.{IsPermutation, IsSortedByKey, ◌&&◌, ◌==◌}
 use Rattle.std.specs.Option.{option_map}
 use Rattle.std.proofs.Math.Logic.{⊎_elim}
 use Rattle.std.proofs.lemmas.Bool.{cases_lt}
@@ -8,8 +8,7 @@ use Rattle.std.proofs.lemmas.Bool.Decides.{nat_tests}
 use Rattle.std.proofs.lemmas.Grind.{flat_map-append}
 use Rattle.std.proofs.lemmas.List.{append-nil, length-map, map-append, length-drop}
 use Rattle.std.proofs.lemmas.List.Elements.{filter-append}
-use Rattle.std.proofs.lemmas.List.Sorted.{IsPermutation-refl, IsPermutation-sym, IsPermutation-trans, IsPermutation-append_left, length_permutation}
-use Rattle.std.specs.Io.KnownBytes.{Appends}
+use Rattle.std.proofs.lemmas.List.Sorted.{IsPermutation-sym, IsPermutation-trans, IsPermutation-append_left, length_permutation}
 use Rattle.value_meaning.specs.Val.{Val}
 use Rattle.tree_meaning.specs.Tree.{Ex, Query}
 use Rattle.check_meaning.specs.Aggregates.{is_grouped}
@@ -18,10 +17,10 @@ use Rattle.eval_meaning.specs.Passed.{passed, is_kept}
 use Rattle.answer_meaning.specs.Made.{Output, Made}
 use Rattle.answer_meaning.specs.Answers.{limited, keys_cmp}
 use Rattle.answer_meaning.specs.Lines.{print, line_text}
-use Rattle.made_meaning.specs.MadeRows.{made, made_rows, made_row}
+use Rattle.made_meaning.specs.MadeRows.{made, made_row}
 use Rattle.made_meaning.proofs.Ungrouped.{made_by_rows}
 use Rattle.scan_meaning.specs.Batches.{is_plain, need, IsShort}
-use Rattle.scan_meaning.specs.Answers.{falling, AreAnswer, IsPrefix, AddsAnswer, AddsWhole}
+use Rattle.scan_meaning.specs.Answers.{falling, AreAnswer, AddsAnswer, AddsWhole}
 
 both : (a b : Bool) → (a && b) ≡ true → (a ≡ true) × (b ≡ true)
 both true b h = (refl, h)

@@ -1,16 +1,16 @@
 -- There is a verdict, and a number of batches that count.
-use Rattle.std.proofs.Common.{◌≡◌, ◌⊎◌, inl, inr, ℕ, zero, suc, ◌+◌, ◌*◌, ◌<◌, ◌≤◌, List, [], ◌∷◌, length, Option, Some, None, refl, sym, ap, ◌∙◌, subst, arith}
+use Rattle.std.proofs.Common.{◌≡◌, ◌⊎◌, inl, inr, ℕ, zero, suc, ◌+◌, ◌*◌, ◌<◌, ◌≤◌, List, [], ◌∷◌, length, Option, Some, None, refl, arith}
 use Rattle.std.proofs.Math.Logic.{⊎_elim}
 use Rattle.std.proofs.lemmas.Bool.{cases_lt}
 use Rattle.snel_device.specs.Contents.{Contents}
-use Rattle.file_meaning.specs.Files.{Entry, IsFile}
+use Rattle.file_meaning.specs.Files.{Entry}
 use Rattle.file_meaning.specs.Reading.{AreBytes, file_in}
 use Rattle.file_meaning.proofs.Spelled.{file_reads}
 use Rattle.file_meaning.proofs.Believed.{file_is}
 use Rattle.tree_meaning.specs.Tree.{Query}
 use Rattle.scan_meaning.specs.Blocks.{Block}
 use Rattle.scan_meaning.specs.Batches.{need, count_passed, front, IsShort, BatchCounts, Counts}
-use Rattle.scan_meaning.specs.Opened.{Opened, Named, absent, no_file, opened, IsNamed, AreNamed}
+use Rattle.scan_meaning.specs.Opened.{Named, absent, no_file, opened, IsNamed, AreNamed}
 use Rattle.scan_meaning.specs.Verdicts.{Verdict, verdict_of, Finds}
 
 one_is : (bytes : List ℕ) → AreBytes bytes → (o : Option (List ℕ × List Entry)) → file_in bytes ≡ o → (f : Named) × IsNamed (Some bytes) f

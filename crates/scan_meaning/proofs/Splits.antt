@@ -1,21 +1,17 @@
 -- The rows of the blocks that are to be scanned, and those of all undamaged blocks.
-use Rattle.std.proofs.Common.{◌≡◌, ◌⊎◌, inl, inr, ℕ, zero, suc, ◌+◌, ◌*◌, ◌≤◌, Bool, true, false, cond, List, [], ◌∷◌, ◌++◌, length, take, drop, map, filter, Option, Some, None, refl, sym, ap, ◌∙◌, subst, arith, append_assoc}
-use Rattle.std.specs.Prelude.{find, flat_map, unwrap_or, IsPermutation, ◌≢◌, FitsSigned, get_or}
-use Rattle.std.specs.List as list
+use Rattle.std.proofs.Common.{◌≡◌, ◌⊎◌, inl, inr, ℕ, suc, ◌+◌, Bool, true, false, cond, List, [], ◌∷◌, ◌++◌, length, map, filter, Option, Some, None, refl, sym, ap, ◌∙◌, subst, arith, append_assoc}
+use Rattle.std.specs.Prelude.{unwrap_or, IsPermutation}
 use Rattle.std.specs.Option.{option_and_then}
-use Rattle.std.specs.Int.{w64}
 use Rattle.std.proofs.Math.Logic.{⊎_elim}
 use Rattle.std.proofs.lemmas.List.{append-nil}
 use Rattle.std.proofs.lemmas.List.Elements.{filter-append}
 use Rattle.std.proofs.lemmas.List.Sorted.{IsPermutation-refl, IsPermutation-trans, IsPermutation-append, IsPermutation-append_comm, IsPermutation-append_left, IsPermutation-append_right}
 use Rattle.snel_device.specs.Contents.{Contents}
 use Rattle.value_meaning.specs.Val.{Val}
-use Rattle.file_meaning.specs.Files.{Entry, IsFile, IsEntry, StandEndToEnd, AreEntryRows, AreFileRows, bytes_at}
+use Rattle.file_meaning.specs.Files.{Entry, IsFile, StandEndToEnd, AreEntryRows, AreFileRows}
 use Rattle.tree_meaning.specs.Tree.{Ex, Query}
 use Rattle.eval_meaning.specs.Pair.{Pair, alone}
 use Rattle.eval_meaning.specs.Passed.{passed, is_kept}
-use Rattle.range_meaning.specs.declared.Bounds.TheVariants.{All}
-use Rattle.range_meaning.specs.Binding.{bounds}
 use Rattle.range_meaning.specs.Excluded.{IsExcluded, IsSoundEntry}
 use Rattle.range_meaning.specs.Laws.{HasTimes}
 use Rattle.range_meaning.proofs.Passing.{passes_not}

@@ -1,5 +1,5 @@
 -- Batches of blocks, and those that count: all of them, unless a LIMIT is full before.
-use Rattle.std.specs.Prelude.{◌≡◌, ℕ, suc, ◌+◌, ◌*◌, ◌<◌, ◌≤◌, ◌⊎◌, Bool, not, ◌&&◌, ◌==◌, List, [], length, take, drop, Option, Some, None, ⊤, is_none, unwrap_or, find, flat_map, sum_by, if◌then◌else◌}
+use Rattle.std.specs.Prelude.{◌≡◌, ℕ, suc, ◌+◌, ◌*◌, ◌<◌, ◌≤◌, ◌⊎◌, Bool, false, not, ◌&&◌, ◌==◌, List, [], length, take, drop, Option, Some, None, ⊤, is_none, unwrap_or, find, flat_map, sum_by, if◌then◌else◌}
 use Rattle.std.specs.Option.{option_map}
 use Rattle.value_meaning.specs.Val.{Val}
 use Rattle.tree_meaning.specs.Tree.{Query}
@@ -68,3 +68,11 @@ pub record MayPass (q : Query) (bs : List Block) : Type 0 where
   pub counts : Counts q bs count
   pub good : (first_bad (front count bs) ≡ None)
       ⊎ ((j : ℕ) × (count ≡ suc j) × (first_bad (front j bs) ≡ None) × ¬ IsShort (need q) (count_passed q (front count bs)))
+
+-- Lines may be put: those of a batch of a plain query that counts, once none of its blocks and of those before is bad, and those of another
+-- query once no block is bad.
+pub record MayPut (q : Query) (bs : List Block) : Type 0 where
+  pub before : ℕ
+  pub counts : BatchCounts q bs before
+  pub good : first_bad (front (before + 1) bs) ≡ None
+  pub all : is_plain q ≡ false → first_bad bs ≡ None

@@ -1,5 +1,5 @@
 -- Blocks of the named files, and the rows that they hold.
-use Rattle.std.specs.Prelude.{ℕ, ℤ, suc, Bool, true, ◌&&◌, ◌||◌, ◌==◌, int_le, List, [], ◌∷◌, length, Option, Some, None, if◌then◌else◌}
+use Rattle.std.specs.Prelude.{ℕ, suc, Bool, true, ◌&&◌, ◌||◌, ◌==◌, int_le, List, [], ◌∷◌, length, Option, Some, None, if◌then◌else◌}
 use Rattle.std.specs.List.{list_all}
 use Rattle.std.specs.Option.{option_and_then}
 use Rattle.value_meaning.specs.Val.{Val, time}

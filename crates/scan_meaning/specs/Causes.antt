@@ -1,5 +1,5 @@
 -- What stands against each named file, and what reading costs.
-use Rattle.std.specs.Prelude.{◌≡◌, ◌≤◌, ℕ, ◌+◌, List, length, take, map, slice_get, Option, Some, None, sum_by}
+use Rattle.std.specs.Prelude.{◌≡◌, ◌≤◌, ℕ, ◌+◌, List, take, slice_get, Option, Some, sum_by}
 use Rattle.std.specs.Option.{ForSome}
 use Rattle.snel_device.specs.Contents.{Contents}
 use Rattle.file_meaning.specs.Reading.{index_cost}

@@ -1,12 +1,12 @@
 -- Checking files: the first file that is absent, no block file or has a bad block; and the line of each file before it.
-use Rattle.std.specs.Prelude.{◌≡◌, ℕ, zero, suc, List, [], ◌∷◌, ◌++◌, length, codes, find, sum_by, take, Option, Some, None, unwrap_or}
+use Rattle.std.specs.Prelude.{◌≡◌, ℕ, zero, suc, List, [], ◌∷◌, ◌++◌, length, codes, sum_by, take, Option, Some, None}
 use Rattle.std.specs.Fmt.{decimal}
 use Rattle.std.specs.Io.KnownBytes.{Appends}
 use Rattle.snel_device.specs.Contents.{Contents}
 use Rattle.file_meaning.specs.Files.{Entry}
 use Rattle.scan_meaning.specs.Blocks.{Place, Block}
 use Rattle.scan_meaning.specs.Batches.{first_bad}
-use Rattle.scan_meaning.specs.Opened.{Opened, Named, absent, no_file, opened, AreNamed, blocks_of}
+use Rattle.scan_meaning.specs.Opened.{Named, absent, no_file, opened, AreNamed, blocks_of}
 use Rattle.scan_meaning.specs.Verdicts.{IsAmong}
 use Rattle.scan_meaning.specs.Answers.{IsPrefix}
 

@@ -6,13 +6,14 @@ use Rattle.block_meaning.specs.Tables.{Table}
 use Rattle.block_meaning.specs.Blocks.{IsBlock, IsDamaged}
 use Rattle.file_meaning.specs.Reading.{AreBytes}
 use Rattle.tree_meaning.specs.Tree.{Query}
+use Rattle.answer_meaning.specs.Made.{Output}
 use Rattle.range_meaning.specs.Excluded.{IsExcluded, IsSoundEntry}
 use Rattle.file_meaning.specs.Files.{Entry}
 use Rattle.scan_meaning.specs.Blocks.{Block, stored_rows, is_sound}
 use Rattle.scan_meaning.specs.Wanted.{bounds_by, is_wanted}
-use Rattle.scan_meaning.specs.Batches.{first_bad, is_plain, Counts, IsFirstBad, front}
+use Rattle.scan_meaning.specs.Batches.{first_bad, Counts, IsFirstBad, front}
 use Rattle.scan_meaning.specs.Verdicts.{Verdict, Finds}
-use Rattle.scan_meaning.specs.Answers.{EndsAs}
+use Rattle.scan_meaning.specs.Answers.{AreAnswer, EndsAs}
 use Rattle.scan_meaning.specs.Headline.{AnswersFiles}
 
 -- The rows of a block are those of which its bytes are a block of as many rows as its entry says, and it has none exactly where it is damaged.
@@ -52,10 +53,13 @@ SomeCount = (q : Query) (bs : List Block) → (count : ℕ) × Counts q bs count
 abbrev pub FirstBadIsFirst : Type 0
 FirstBadIsFirst = (q : Query) (bs : List Block) (b : Block) → IsFirstBad q bs b → first_bad bs ≡ Some b
 
--- A query that neither groups nor sorts, and that ended as each verdict allows that names and files give rise to, has written lines of an
--- answer for the rows of its files.
+-- Each query has an answer for each list of rows.
+abbrev pub SomeAnswer : Type 0
+SomeAnswer = (q : Query) (rows : List Val) → (outputs : List Output) × AreAnswer q rows outputs
+
+-- A query that ended as each verdict allows that names and files give rise to has written lines of an answer for the rows of its files.
 abbrev pub EndedIsAnswered : Type 0
 EndedIsAnswered =
-    (q : Query) (names : List (List ℕ)) (told : Option Contents) (status : ℕ) (old new : Option (List ℕ))
-    → is_plain q ≡ true → ((v : Verdict) → Finds q names told v → EndsAs q v status old new)
-    → AnswersFiles q names told status old new
+    (q : Query) (limit : ℕ) (names : List (List ℕ)) (told : Option Contents) (status : ℕ) (old new : Option (List ℕ))
+    → ((v : Verdict) → Finds q names told v → EndsAs q limit v status old new)
+    → AnswersFiles q limit names told status old new

@@ -1,6 +1,7 @@
 pub mod Blocks
 pub mod Wanted
 pub mod Batches
+pub mod Limits
 pub mod Opened
 pub mod Verdicts
 pub mod Answers

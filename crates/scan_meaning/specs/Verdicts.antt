@@ -1,5 +1,5 @@
 -- Verdicts: the first file that can't be read, or the blocks that are to be scanned.
-use Rattle.std.specs.Prelude.{◌≡◌, ℕ, zero, suc, ◌==◌, IsTrue, List, [], ◌∷◌, length, filter, not, count_by, ⊤, Option, Some, None, unwrap_or}
+use Rattle.std.specs.Prelude.{◌≡◌, ℕ, zero, suc, ◌==◌, IsTrue, List, [], ◌∷◌, filter, not, count_by, Option, Some, None, unwrap_or}
 use Rattle.std.specs.List.{list_any}
 use Rattle.snel_device.specs.Contents.{Contents}
 use Rattle.tree_meaning.specs.Tree.{Query}
@@ -46,8 +46,8 @@ abbrev pub statuses : Verdict → List ℕ
 statuses (no_such_file zero) = 4 ∷ 10 ∷ []
 statuses (no_such_file (suc k)) = 8 ∷ 4 ∷ 10 ∷ []
 statuses (no_block_file k) = 8 ∷ 5 ∷ 10 ∷ []
-statuses (scan bs n) = 8 ∷ 6 ∷ 9 ∷ 0 ∷ 10 ∷ []
-statuses untold = 4 ∷ 8 ∷ 5 ∷ 6 ∷ 9 ∷ 0 ∷ 10 ∷ []
+statuses (scan bs n) = 8 ∷ 6 ∷ 7 ∷ 9 ∷ 0 ∷ 10 ∷ []
+statuses untold = 4 ∷ 8 ∷ 5 ∷ 6 ∷ 7 ∷ 9 ∷ 0 ∷ 10 ∷ []
 
 -- the status is one of these
 abbrev pub IsAmong : ℕ → List ℕ → Type 0

@@ -2,7 +2,7 @@
 //! way, how it may end and how many bytes it may read. Nothing here runs: each function is a law of the definitions.
 #![tactic(auto)]
 
-ghost use Rattle.scan_meaning.specs.Laws.{BlocksAreExact, RangesAreExact, UnwantedAreExcluded, OneVerdict, SomeVerdict, OneCount, SomeCount, FirstBadIsFirst, EndedIsAnswered};
+ghost use Rattle.scan_meaning.specs.Laws.{BlocksAreExact, RangesAreExact, UnwantedAreExcluded, OneVerdict, SomeVerdict, OneCount, SomeCount, FirstBadIsFirst, SomeAnswer, EndedIsAnswered};
 
 /// The rows of a block are those of which its bytes are a block of so many rows.
 pub fn blocks_are_exact()
@@ -42,6 +42,11 @@ pub fn some_count()
 /// The first bad block in the batches that count is the first of all.
 pub fn first_bad_is_first()
     ensures { FirstBadIsFirst }
+{}
+
+/// Each query has an answer for each list of rows.
+pub fn some_answer()
+    ensures { SomeAnswer }
 {}
 
 /// A query that ended as its verdict allows has written lines of an answer for the rows of its files.

@@ -11,7 +11,7 @@ use Rattle.scan_meaning.proofs.Batches.{first_of_all}
 use Rattle.scan_meaning.proofs.Named.{all_named}
 use Rattle.query_run.specs.declared.text_fault.TextFault.{TextFault}
 use Rattle.query_run.specs.declared.query_fault.QueryFault.{QueryFault}
-use Rattle.query_run.specs.declared.query_fault.QueryFault.TheVariants.{Text, Absent, NotAFile, Damaged, ReadFault, WriteFault, OutOfMemory}
+use Rattle.query_run.specs.declared.query_fault.QueryFault.TheVariants.{Text, Absent, NotAFile, Damaged, Groups, ReadFault, WriteFault, OutOfMemory}
 use Rattle.query_run.specs.Queries.{IsRefused}
 use Rattle.query_run.specs.Statuses as of_query
 use Rattle.query_run.specs.TextFaults.{refused_view}
@@ -34,6 +34,7 @@ no_words (Text q) e = omega (arith, e)
 no_words (Absent k) e = omega (arith, e)
 no_words (NotAFile k) e = omega (arith, e)
 no_words (Damaged file block) e = omega (arith, e)
+no_words Groups e = omega (arith, e)
 no_words ReadFault e = omega (arith, e)
 no_words WriteFault e = omega (arith, e)
 no_words OutOfMemory e = omega (arith, e)
@@ -63,6 +64,7 @@ text_fault (Text q) e = (q, refl)
 text_fault (Absent k) e = absurd (omega (arith, e))
 text_fault (NotAFile k) e = absurd (omega (arith, e))
 text_fault (Damaged file block) e = absurd (omega (arith, e))
+text_fault Groups e = absurd (omega (arith, e))
 text_fault ReadFault e = absurd (omega (arith, e))
 text_fault WriteFault e = absurd (omega (arith, e))
 text_fault OutOfMemory e = absurd (omega (arith, e))
@@ -88,6 +90,13 @@ one_of_two : (n a b : ℕ) → IsTrue (list_any (λ s. s == n) (a ∷ b ∷ []))
 one_of_two n a b h = elim (one_of n a (b ∷ []) h) [
   | inl x ↦ inl x
   | inr y ↦ elim (one_of n b [] y) [ inl z ↦ inr z | inr none ↦ absurd (cc) ]
+]
+
+-- 7 or 10 of the statuses of a scan behind its reads
+moved_to : (n : ℕ) → IsTrue (list_any (λ s. s == n) (6 ∷ 7 ∷ 9 ∷ 0 ∷ 10 ∷ [])) → (n ≡ 6 → ⊥) → (n ≡ 9 → ⊥) → (n ≡ 0 → ⊥) → IsTrue (list_any (λ s. s == n) (7 ∷ 10 ∷ []))
+moved_to n h a b c = elim (one_of n 7 (9 ∷ 0 ∷ 10 ∷ []) (but n 6 (7 ∷ 9 ∷ 0 ∷ 10 ∷ []) a h)) [
+  | inl e ↦ rw e refl
+  | inr k ↦ elim (one_of n 10 [] (but n 0 (10 ∷ []) c (but n 9 (0 ∷ 10 ∷ []) b k))) [ inl e ↦ rw e refl | inr none ↦ absurd (cc) ]
 ]
 
 module _ (told : Option Contents) (left : Option (List ℕ)) (status faults now : ℕ) (old new told_old told_new : Option (List ℕ)) where
@@ -138,14 +147,23 @@ pub comes : (ask : Ask) (told : Option Contents) (left : Option (List ℕ)) (sta
 comes ask told left status faults now reads_before reads_now writes_before writes_now files_before files_now input_before input_now old new told_old told_new ends came reads writes = record {
   words = words_exactly told left status faults now old new told_old told_new ask ends came;
   text = text_exactly told left status faults now old new told_old told_new ask ends came;
-  answered = λ settings sql names q bs n asks accepts finds good no_read no_write.
+  answered = λ settings sql names q bs n asks accepts finds good within no_read no_write.
       let here = subst (λ (a : Ask). Ends a told left status old new) asks ends in
       let read_failed = subst (λ (a : Ask). status ≡ 8 → ReadFailed a reads_before reads_now input_before input_now) asks reads in
       let write_failed = subst (λ (a : Ask). status ≡ 9 → WriteFailed a files_before files_now writes_before writes_now) asks writes in
       let so = here.accepted q _ accepts finds in
       let no_bad : status ≡ 6 → ⊥ = λ e. let b = so.wrote.bad e in let first = first_of_all q bs b.0 b.1 in cc in
-      one_of_two status 0 10 (but status 9 (0 ∷ 10 ∷ []) (λ e. no_write (write_failed e)) (but status 6 (9 ∷ 0 ∷ 10 ∷ []) no_bad
-      (but status 8 (6 ∷ 9 ∷ 0 ∷ 10 ∷ []) (λ e. no_read (read_failed e)) so.allowed)));
+      let few : status ≡ 7 → ⊥ = λ e. let over = (so.wrote.over e).1 in cc in
+      one_of_two status 0 10 (but status 9 (0 ∷ 10 ∷ []) (λ e. no_write (write_failed e)) (but status 7 (9 ∷ 0 ∷ 10 ∷ []) few
+      (but status 6 (7 ∷ 9 ∷ 0 ∷ 10 ∷ []) no_bad (but status 8 (6 ∷ 7 ∷ 9 ∷ 0 ∷ 10 ∷ []) (λ e. no_read (read_failed e)) so.allowed))));
+  over = λ settings sql names q bs n asks accepts finds good over no_read.
+      let here = subst (λ (a : Ask). Ends a told left status old new) asks ends in
+      let read_failed = subst (λ (a : Ask). status ≡ 8 → ReadFailed a reads_before reads_now input_before input_now) asks reads in
+      let so = here.accepted q _ accepts finds in
+      let no_bad : status ≡ 6 → ⊥ = λ e. let b = so.wrote.bad e in let first = first_of_all q bs b.0 b.1 in cc in
+      let undone : status ≡ 0 → ⊥ = λ e. let within = so.wrote.within (inl e) in cc in
+      let uncut : status ≡ 9 → ⊥ = λ e. let within = so.wrote.within (inr e) in cc in
+      one_of_two status 7 10 (moved_to status (but status 8 (6 ∷ 7 ∷ 9 ∷ 0 ∷ 10 ∷ []) (λ e. no_read (read_failed e)) so.allowed) no_bad uncut undone);
   checked = λ names files asks tells sounds no_read no_write.
       let here = subst (λ (a : Ask). Ends a told left status old new) asks ends in
       let read_failed = subst (λ (a : Ask). status ≡ 8 → ReadFailed a reads_before reads_now input_before input_now) asks reads in

@@ -1,11 +1,14 @@
 -- What each command's own call says of how it came out.
-use Rattle.std.proofs.Common.{◌≡◌, ℕ, Bool, true, false, List, Option, None, Result, Ok, Err, ◌≤◌, refl, ap, subst, ◌∙◌, arith}
+use Rattle.std.proofs.Common.{◌≡◌, ℕ, Bool, true, false, List, Option, None, Result, Ok, Err, ◌<◌, ◌≤◌, refl, sym, ap, subst, ◌∙◌, arith}
+use Rattle.std.proofs.Math.Logic.{⊎_elim}
+use Rattle.std.proofs.lemmas.Bool.{cases_lt}
 use Rattle.std.specs.Prelude.{length}
 use Rattle.snel_device.specs.Contents.{Contents}
 use Rattle.tree_meaning.specs.Tree.{Query as QueryTree}
 use Rattle.scan_meaning.specs.Batches.{front}
+use Rattle.scan_meaning.specs.Headline.{AnswersFiles}
 use Rattle.query_run.specs.declared.query_fault.QueryFault.{QueryFault}
-use Rattle.query_run.specs.declared.query_fault.QueryFault.TheVariants.{Text, Absent, NotAFile, Damaged, ReadFault, WriteFault, OutOfMemory}
+use Rattle.query_run.specs.declared.query_fault.QueryFault.TheVariants.{Text, Absent, NotAFile, Damaged, Groups, ReadFault, WriteFault, OutOfMemory}
 use Rattle.query_run.specs.declared.sum.QuerySum.{QuerySum}
 use Rattle.query_run.specs.Queries.{Accepts}
 use Rattle.query_run.specs.Statuses as of_query
@@ -24,7 +27,7 @@ use Rattle.snel_prog.specs.declared.outcome.Done.TheVariants.{All, Counted}
 use Rattle.snel_prog.specs.Outcomes.{is_counted, done_of}
 use Rattle.snel_prog.specs.Causes.{Says, TellsCounts}
 use Rattle.snel_prog.specs.Headline.{Headline}
-use Rattle.snel_prog.specs.Stops.{StopsPlain}
+use Rattle.snel_prog.specs.Stops.{StopsScan}
 
 -- a fault by its status
 pub is_absent : (A : Type 0) (f : QueryFault) → of_query.status_of f ≡ 4 → IsAbsent {A = A} (Err f)
@@ -32,6 +35,7 @@ is_absent A (Absent k) e = tt
 is_absent A (Text q) e = absurd (omega (arith, e))
 is_absent A (NotAFile k) e = absurd (omega (arith, e))
 is_absent A (Damaged file block) e = absurd (omega (arith, e))
+is_absent A Groups e = absurd (omega (arith, e))
 is_absent A ReadFault e = absurd (omega (arith, e))
 is_absent A WriteFault e = absurd (omega (arith, e))
 is_absent A OutOfMemory e = absurd (omega (arith, e))
@@ -42,6 +46,7 @@ is_read_fault (Text q) e = absurd (omega (arith, e))
 is_read_fault (Absent k) e = absurd (omega (arith, e))
 is_read_fault (NotAFile k) e = absurd (omega (arith, e))
 is_read_fault (Damaged file block) e = absurd (omega (arith, e))
+is_read_fault Groups e = absurd (omega (arith, e))
 is_read_fault WriteFault e = absurd (omega (arith, e))
 is_read_fault OutOfMemory e = absurd (omega (arith, e))
 
@@ -51,24 +56,27 @@ is_write_fault (Text q) e = absurd (omega (arith, e))
 is_write_fault (Absent k) e = absurd (omega (arith, e))
 is_write_fault (NotAFile k) e = absurd (omega (arith, e))
 is_write_fault (Damaged file block) e = absurd (omega (arith, e))
+is_write_fault Groups e = absurd (omega (arith, e))
 is_write_fault ReadFault e = absurd (omega (arith, e))
 is_write_fault OutOfMemory e = absurd (omega (arith, e))
 
 -- what a fault says, whatever the answer at Ok
-pub query_cause : (A B : Type 0) (sql : List ℕ) (names : List (List ℕ)) (told : Option Contents) (f : QueryFault) → HasItsCause {A = A} sql names told (Err f) → HasItsCause {A = B} sql names told (Err f)
-query_cause A B sql names told (Text q) h = h
-query_cause A B sql names told (Absent k) h = h
-query_cause A B sql names told (NotAFile k) h = h
-query_cause A B sql names told (Damaged file block) h = h
-query_cause A B sql names told ReadFault h = h
-query_cause A B sql names told WriteFault h = h
-query_cause A B sql names told OutOfMemory h = h
+pub query_cause : (A B : Type 0) (sql : List ℕ) (limit : ℕ) (names : List (List ℕ)) (told : Option Contents) (f : QueryFault) → HasItsCause {A = A} sql limit names told (Err f) → HasItsCause {A = B} sql limit names told (Err f)
+query_cause A B sql limit names told (Text q) h = h
+query_cause A B sql limit names told (Absent k) h = h
+query_cause A B sql limit names told (NotAFile k) h = h
+query_cause A B sql limit names told (Damaged file block) h = h
+query_cause A B sql limit names told Groups h = h
+query_cause A B sql limit names told ReadFault h = h
+query_cause A B sql limit names told WriteFault h = h
+query_cause A B sql limit names told OutOfMemory h = h
 
 pub check_cause : (A B : Type 0) (names : List (List ℕ)) (told : Option Contents) (f : QueryFault) → HasCheckCause {A = A} names told (Err f) → HasCheckCause {A = B} names told (Err f)
 check_cause A B names told (Text q) h = h
 check_cause A B names told (Absent k) h = h
 check_cause A B names told (NotAFile k) h = h
 check_cause A B names told (Damaged file block) h = h
+check_cause A B names told Groups h = h
 check_cause A B names told ReadFault h = h
 check_cause A B names told WriteFault h = h
 check_cause A B names told OutOfMemory h = h
@@ -101,6 +109,7 @@ never_exists (Text q) e = omega (arith, e)
 never_exists (Absent k) e = omega (arith, e)
 never_exists (NotAFile k) e = omega (arith, e)
 never_exists (Damaged file block) e = omega (arith, e)
+never_exists Groups e = omega (arith, e)
 never_exists ReadFault e = omega (arith, e)
 never_exists WriteFault e = omega (arith, e)
 never_exists OutOfMemory e = omega (arith, e)
@@ -122,17 +131,20 @@ tells_counts stats sql names told sum h = record {
 same_text : (s t : Settings) (a b : List ℕ) (c d : List (List ℕ)) → query s a c ≡ query t b d → a ≡ b
 same_text s t a b c d e = cc
 
+same_settings : (s t : Settings) (a b : List ℕ) (c d : List (List ℕ)) → query s a c ≡ query t b d → s ≡ t
+same_settings s t a b c d e = cc
+
 same_names : (s t : Settings) (a b : List ℕ) (c d : List (List ℕ)) → query s a c ≡ query t b d → c ≡ d
 same_names s t a b c d e = cc
 
 module _ (told : Option Contents) (status : ℕ) (old new : Option (List ℕ)) where
-  pub of_files : (settings : Settings) (sql : List ℕ) (names : List (List ℕ)) → query_headline.Headline sql names told status old new → Headline (query settings sql names) told status old new
+  pub of_files : (settings : Settings) (sql : List ℕ) (names : List (List ℕ)) → query_headline.Headline sql settings.groups names told status old new → Headline (query settings sql names) told status old new
   of_files settings sql names h = record {
     answers = λ others text files q asks accepts.
-        let here : query_headline.Headline text files told status old new =
-        subst (λ (s : List ℕ). query_headline.Headline s files told status old new) (same_text settings others sql text names files asks)
-        (subst (λ (n : List (List ℕ)). query_headline.Headline sql n told status old new) (same_names settings others sql text names files asks) h) in
-        here.of_query q accepts;
+        let text_is = same_text settings others sql text names files asks in
+        let here : AnswersFiles q settings.groups names told status old new = h.of_query q (subst (λ (t : List ℕ). Accepts t q) (sym text_is) accepts) in
+        subst (λ (n : List (List ℕ)). AnswersFiles q others.groups n told status old new) (same_names settings others sql text names files asks)
+        (subst (λ (k : ℕ). AnswersFiles q k names told status old new) (ap (λ (s : Settings). s.groups) (same_settings settings others sql text names files asks)) here);
   }
 
   pub of_nothing : Headline nothing told status old new
@@ -147,22 +159,51 @@ module _ (told : Option Contents) (status : ℕ) (old new : Option (List ℕ)) w
   pub of_explain : (sql : List ℕ) → Headline (explain sql) told status old new
   of_explain text = record { answers = λ settings sql names q asks accepts. absurd (cc) }
 
--- whole batches of lines
+-- what is written where a scan stops
 module _ (sql : List ℕ) (names : List (List ℕ)) (before now : ℕ) (old new : Option (List ℕ)) where
-  pub stops_not : (told : Option Contents) (status : ℕ) → (status ≡ 6 → ⊥) → (status ≡ 8 → ⊥) → StopsPlain sql names told status before now old new
-  stops_not told status no_bad no_fault = record { bad = λ q e accepts plain. absurd (no_bad e); unread = λ q e accepts plain. absurd (no_fault e) }
-
-  pub stops : (A : Type 0) (told : Option Contents) (f : QueryFault) → ((q : QueryTree) → Accepts sql q → StopsSo {A = A} q names told (Err f) before now old new) → StopsPlain sql names told (of_query.status_of f) before now old new
-  stops A told (Damaged file block) h = record {
-    bad = λ q e accepts plain files tells. let s = h q accepts plain files tells in (s.0, s.1, (s.2.0, s.2.2));
-    unread = λ q e accepts plain. absurd (omega (arith, e));
+  pub stops_not : (told : Option Contents) (status : ℕ) → (status ≡ 6 → ⊥) → (status ≡ 7 → ⊥) → (status ≡ 8 → ⊥) → (status ≡ 9 → ⊥) → StopsScan sql names told status before now old new
+  stops_not told status no_bad few no_fault uncut = record {
+    bad = λ q e accepts plain. absurd (no_bad e);
+    unread = λ q e accepts. absurd (no_fault e);
+    cut = λ q e accepts plain. absurd (uncut e);
+    unwritten = λ q least most accepts other. none status no_bad few no_fault least most;
   }
-  stops A told ReadFault h = record { bad = λ q e accepts plain. absurd (omega (arith, e)); unread = λ q e accepts plain. h q accepts plain }
-  stops A told (Text q) h = stops_not told 3 (λ e. omega (arith, e)) (λ e. omega (arith, e))
-  stops A told (Absent k) h = stops_not told 4 (λ e. omega (arith, e)) (λ e. omega (arith, e))
-  stops A told (NotAFile k) h = stops_not told 5 (λ e. omega (arith, e)) (λ e. omega (arith, e))
-  stops A told WriteFault h = stops_not told 9 (λ e. omega (arith, e)) (λ e. omega (arith, e))
-  stops A told OutOfMemory h = stops_not told 10 (λ e. omega (arith, e)) (λ e. omega (arith, e))
+    where
+      none : (n : ℕ) → (n ≡ 6 → ⊥) → (n ≡ 7 → ⊥) → (n ≡ 8 → ⊥) → 6 ≤ n → n ≤ 8 → Keeps old new
+      none n a b c least most = ⊎_elim
+          (λ (l : n < 7). absurd (a (omega arith)))
+          (λ (g : 7 ≤ n). ⊎_elim (λ (l : n < 8). absurd (b (omega arith))) (λ (h : 8 ≤ n). absurd (c (omega arith))) (cases_lt n 8))
+          (cases_lt n 7)
+
+  pub stops : (A : Type 0) (told : Option Contents) (f : QueryFault) → ((q : QueryTree) → Accepts sql q → StopsSo {A = A} q names told (Err f) before now old new) → StopsScan sql names told (of_query.status_of f) before now old new
+  stops A told (Damaged file block) h = record {
+    bad = λ q e accepts plain files tells. let s = (h q accepts).0 plain files tells in (s.0, s.1, (s.2.0, s.2.2));
+    unread = λ q e accepts. absurd (omega (arith, e));
+    cut = λ q e accepts plain. absurd (omega (arith, e));
+    unwritten = λ q least most accepts other. (h q accepts).1 other;
+  }
+  stops A told Groups h = record {
+    bad = λ q e accepts plain. absurd (omega (arith, e));
+    unread = λ q e accepts. absurd (omega (arith, e));
+    cut = λ q e accepts plain. absurd (omega (arith, e));
+    unwritten = λ q least most accepts other. h q accepts;
+  }
+  stops A told ReadFault h = record {
+    bad = λ q e accepts plain. absurd (omega (arith, e));
+    unread = λ q e accepts. (h q accepts).0;
+    cut = λ q e accepts plain. absurd (omega (arith, e));
+    unwritten = λ q least most accepts other. (h q accepts).1 other;
+  }
+  stops A told WriteFault h = record {
+    bad = λ q e accepts plain. absurd (omega (arith, e));
+    unread = λ q e accepts. absurd (omega (arith, e));
+    cut = λ q e accepts plain. h q accepts plain;
+    unwritten = λ q least most accepts other. absurd (omega (arith, most));
+  }
+  stops A told (Text q) h = stops_not told 3 (λ e. omega (arith, e)) (λ e. omega (arith, e)) (λ e. omega (arith, e)) (λ e. omega (arith, e))
+  stops A told (Absent k) h = stops_not told 4 (λ e. omega (arith, e)) (λ e. omega (arith, e)) (λ e. omega (arith, e)) (λ e. omega (arith, e))
+  stops A told (NotAFile k) h = stops_not told 5 (λ e. omega (arith, e)) (λ e. omega (arith, e)) (λ e. omega (arith, e)) (λ e. omega (arith, e))
+  stops A told OutOfMemory h = stops_not told 10 (λ e. omega (arith, e)) (λ e. omega (arith, e)) (λ e. omega (arith, e)) (λ e. omega (arith, e))
 
 -- a fault before the first batch leaves the sink as it was
 pub quiet : (A : Type 0) (f : QueryFault) (old new : Option (List ℕ)) → IsQuiet {A = A} (Err f) old new → 2 ≤ of_query.status_of f → of_query.status_of f ≤ 5 → Keeps old new
@@ -170,6 +211,7 @@ quiet A (Text q) old new h least most = h
 quiet A (Absent k) old new h least most = h
 quiet A (NotAFile k) old new h least most = h
 quiet A (Damaged file block) old new h least most = absurd (omega (arith, most))
+quiet A Groups old new h least most = absurd (omega (arith, most))
 quiet A ReadFault old new h least most = absurd (omega (arith, most))
 quiet A WriteFault old new h least most = absurd (omega (arith, most))
 quiet A OutOfMemory old new h least most = absurd (omega (arith, most))

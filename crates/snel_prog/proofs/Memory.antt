@@ -15,7 +15,7 @@ use Rattle.snel_prog.specs.Stops.{Stops, StaysQuiet}
 use Rattle.snel_prog.proofs.Sink.{Keeps-same}
 
 pub headline : (ask : Ask) (told : Option Contents) (a : Option (List ℕ)) → Headline ask told 10 a a
-headline ask told a = record { answers = λ settings sql names q asks accepts. (of_query.headline sql names told a).of_query q accepts }
+headline ask told a = record { answers = λ settings sql names q asks accepts. (of_query.headline sql settings.groups names told a).of_query q accepts }
 
 adds_none : (a : Option (List ℕ)) → Appends a a []
 adds_none None = tt
@@ -23,7 +23,7 @@ adds_none (Some xs) = sym (append-nil xs)
 
 pub ends : (ask : Ask) (told : Option Contents) (left a : Option (List ℕ)) → Ends ask told left 10 a a
 ends nothing told left a = record { allowed = refl; wrote = Keeps-same a }
-ends (query settings sql names) told left a = of_query.ends sql names told a
+ends (query settings sql names) told left a = of_query.ends sql settings.groups names told a
 ends (check names) told left a = of_query.checks names told a
 ends (pack p name) told left a = record {
   allowed = refl;
@@ -43,7 +43,9 @@ pub stops : (ask : Ask) (told : Option Contents) (before now : ℕ) (old new : O
 stops nothing told before now old new = tt
 stops (query settings sql names) told before now old new = record {
   bad = λ q e accepts plain. absurd (omega (arith, e));
-  unread = λ q e accepts plain. absurd (omega (arith, e));
+  unread = λ q e accepts. absurd (omega (arith, e));
+  cut = λ q e accepts plain. absurd (omega (arith, e));
+  unwritten = λ q least most accepts other. absurd (omega (arith, most));
 }
 stops (check names) told before now old new = tt
 stops (pack p name) told before now old new = tt

@@ -1,5 +1,5 @@
 -- Counts of faults that stand still.
-use Rattle.std.proofs.Common.{◌≡◌, ◌⊎◌, inl, inr, ℕ, List, arith}
+use Rattle.std.proofs.Common.{inl, inr, arith}
 use Rattle.snel_device.specs.Causes.{Rose}
 use Rattle.snel_words.specs.Words.{Ask, nothing, query, check, pack, explain}
 use Rattle.snel_prog.specs.Effects.{ReadFailed, WriteFailed}

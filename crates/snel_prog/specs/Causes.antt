@@ -17,7 +17,7 @@ use Rattle.query_run.specs.Explained as of_explain
 use Rattle.snel_words.specs.Words.{Ask, nothing, query, check, pack, explain}
 use Rattle.snel_prog.specs.Outcomes.{status_after, is_counted, done_of}
 use Rattle.snel_prog.specs.Packs.{SaysOfPack, IsAllAccepted}
-use Rattle.snel_prog.specs.Lines.{names_of, line_of}
+use Rattle.snel_prog.specs.Lines.{limit_of, names_of, line_of}
 use Rattle.snel_prog.specs.declared.outcome.Refusal.{Refusal}
 use Rattle.snel_prog.specs.declared.outcome.Refusal.TheVariants.{Words, Query, Pack}
 use Rattle.snel_prog.specs.declared.outcome.Done.{Done}
@@ -34,8 +34,8 @@ pub record TellsCounts (stats : Bool) (sql : List ℕ) (names : List (List ℕ))
 abbrev pub Says : Ask → Option Contents → Option (List ℕ) → Result Done Refusal → Type 0
 Says nothing told left (Err Words) = ⊤
 Says nothing told left (Err (Query OutOfMemory)) = ⊤
-Says (query settings sql names) told left (Err (Query f)) = of_query.HasItsCause {A = Done} sql names told (Err f)
-Says (query settings sql names) told left (Ok done) = of_query.HasItsCause {A = Done} sql names told (Ok done) × TellsCounts settings.stats sql names told done
+Says (query settings sql names) told left (Err (Query f)) = of_query.HasItsCause {A = Done} sql settings.groups names told (Err f)
+Says (query settings sql names) told left (Ok done) = of_query.HasItsCause {A = Done} sql settings.groups names told (Ok done) × TellsCounts settings.stats sql names told done
 Says (check names) told left (Err (Query f)) = of_check.HasCheckCause {A = Done} names told (Err f)
 Says (check names) told left (Ok All) = of_check.HasCheckCause {A = Done} names told (Ok All)
 Says (explain sql) told left (Err (Query f)) = of_explain.SaysOfExplained sql f
@@ -50,4 +50,4 @@ pub record CameOut (ask : Ask) (told : Option Contents) (left : Option (List ℕ
   pub outcome : Result Done Refusal
   pub is : status ≡ status_after outcome
   pub says : Says ask told left outcome
-  pub line : ¬ Rose before now → Appends old new (line_of (names_of ask) outcome)
+  pub line : ¬ Rose before now → Appends old new (line_of (limit_of ask) (names_of ask) outcome)

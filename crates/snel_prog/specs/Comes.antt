@@ -1,10 +1,11 @@
 -- When statuses come, and that a call is done against which nothing stands.
-use Rattle.std.specs.Prelude.{◌≡◌, ◌⊎◌, ℕ, List, ⊤, Option, Some, None}
+use Rattle.std.specs.Prelude.{◌≡◌, ◌⊎◌, ℕ, true, false, List, ⊤, Option, Some, None}
 use Rattle.snel_device.specs.Causes.{Rose}
 use Rattle.snel_device.specs.Contents.{Contents}
 use Rattle.tree_meaning.specs.Tree.{Query}
 use Rattle.scan_meaning.specs.Blocks.{Block}
-use Rattle.scan_meaning.specs.Batches.{first_bad}
+use Rattle.scan_meaning.specs.Batches.{rows_of, first_bad}
+use Rattle.scan_meaning.specs.Limits.{is_over}
 use Rattle.scan_meaning.specs.Verdicts.{scan, Finds}
 use Rattle.scan_meaning.specs.Checks.{sound, ChecksAs}
 use Rattle.query_run.specs.Queries.{Accepts, IsAccepted, IsRefused}
@@ -20,15 +21,21 @@ text_of (explain sql) = Some sql
 text_of ask = None
 
 -- Status 2 comes exactly where the words aren't accepted, and 3 exactly where the text is refused. A query over block files of which no block
--- is bad that isn't excluded, a check of sound files and the listing of an accepted text are done where no count of faults rose, unless memory
--- wants.
+-- is bad that isn't excluded and that have no more groups than allowed, a check of sound files and the listing of an accepted text are done where no count of faults rose, unless memory
+-- wants. One with more groups ends with status 7.
 pub record Comes (ask : Ask) (told : Option Contents) (status reads_before reads_now writes_before writes_now : ℕ) : Type 0 where
   pub words : Exactly 2 status (ask ≡ nothing)
   pub text : (sql : List ℕ) → text_of ask ≡ Some sql → Exactly 3 status (IsRefused sql)
   pub answered :
       (settings : Settings) (sql : List ℕ) (names : List (List ℕ)) (q : Query) (bs : List Block) (n : ℕ)
       → ask ≡ query settings sql names → Accepts sql q → Finds q names told (scan bs n) → first_bad bs ≡ None
+      → is_over q settings.groups (rows_of bs) ≡ false
       → ¬ Rose reads_before reads_now → ¬ Rose writes_before writes_now → (status ≡ 0) ⊎ (status ≡ 10)
+  pub over :
+      (settings : Settings) (sql : List ℕ) (names : List (List ℕ)) (q : Query) (bs : List Block) (n : ℕ)
+      → ask ≡ query settings sql names → Accepts sql q → Finds q names told (scan bs n) → first_bad bs ≡ None
+      → is_over q settings.groups (rows_of bs) ≡ true
+      → ¬ Rose reads_before reads_now → (status ≡ 7) ⊎ (status ≡ 10)
   pub checked :
       (names : List (List ℕ)) (files : Contents)
       → ask ≡ check names → told ≡ Some files → ChecksAs names files sound

@@ -17,7 +17,7 @@ pub record EndsUnasked (status : ℕ) (old new : Option (List ℕ)) : Type 0 whe
 -- A call ended as what it asks, the files and the input allow.
 abbrev pub Ends : Ask → Option Contents → Option (List ℕ) → ℕ → Option (List ℕ) → Option (List ℕ) → Type 0
 Ends nothing told left status old new = EndsUnasked status old new
-Ends (query settings sql names) told left status old new = of_query.Ends sql names told status old new
+Ends (query settings sql names) told left status old new = of_query.Ends sql settings.groups names told status old new
 Ends (check names) told left status old new = Checks names told status old new
 Ends (pack p name) told left status old new = EndsPack p name told left status old new
 Ends (explain sql) told left status old new = EndsExplained sql status old new

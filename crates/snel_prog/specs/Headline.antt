@@ -8,8 +8,9 @@ use Rattle.snel_words.specs.declared.ask.Settings.{Settings}
 use Rattle.snel_words.specs.Words.{Ask, query}
 
 -- Whatever its settings, the bytes that a query command writes are JSON lines of an answer that evaluating the accepted query one row at a
--- time allows for the rows of its files' undamaged blocks: the whole answer at status 0, and otherwise a prefix of one.
+-- time allows for the rows of its files' undamaged blocks: the whole answer at status 0, and otherwise a prefix of one. At status 7 these rows
+-- have more groups than the settings allow, and at 0 and 9 they haven't.
 pub record Headline (asked : Ask) (told : Option Contents) (status : ℕ) (old new : Option (List ℕ)) : Type 0 where
   pub answers :
       (settings : Settings) (sql : List ℕ) (names : List (List ℕ)) (q : Query)
-      → asked ≡ query settings sql names → Accepts sql q → AnswersFiles q names told status old new
+      → asked ≡ query settings sql names → Accepts sql q → AnswersFiles q settings.groups names told status old new

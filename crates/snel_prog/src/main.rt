@@ -82,7 +82,7 @@ fn answer<R: Threads + Sync + rt::Files + AllocGlobal, W: Write + Drop>(
 
 // Writes the line of a refusal that is about no file, and answers its status.
 fn refuse(refusal: Refusal, err: &mut HostOut<Stderr>) -> u8 {
-    report(Err(refusal), &Names::None, err);
+    report(Err(refusal), 0, &Names::None, err);
     refusal.status()
 }
 

@@ -43,6 +43,7 @@ impl Refusal {
             Refusal::Query(QueryFault::Absent(_)) => 4,
             Refusal::Query(QueryFault::NotAFile(_)) => 5,
             Refusal::Query(QueryFault::Damaged { .. }) => 6,
+            Refusal::Query(QueryFault::Groups) => 7,
             Refusal::Query(QueryFault::ReadFault) => 8,
             Refusal::Query(QueryFault::WriteFault) => 9,
             Refusal::Query(QueryFault::OutOfMemory) => 10,

@@ -8,7 +8,7 @@ ghost use Rattle.snel_device.specs.Causes.{Rose};
 ghost use Rattle.snel_words.specs.Asked.{ask_view};
 ghost use Rattle.snel_prog.specs.Messages.{about, numbered, limit_words, place_words, refused_words, query_line, why_words};
 ghost use Rattle.snel_prog.specs.Outcomes.{status_after};
-ghost use Rattle.snel_prog.specs.Lines.{names_of, name_at, line_of, done_line, refusal_line, pack_line};
+ghost use Rattle.snel_prog.specs.Lines.{limit_of, names_of, name_at, line_of, done_line, refusal_line, pack_line};
 ghost use Rattle.snel_prog.specs.NamesView.{names_view};
 
 use crate::outcome::{Done, Outcome, Refusal};
@@ -48,12 +48,26 @@ impl<'w> Names<'w> {
 pub fn end<E: Out>(outcome: Outcome, ask: &Ask<'_>, err: &mut E) -> u8
     ensures status { result ≡ status_after outcome }
     ensures line { ¬ Rose (E.faults err.old) (E.faults err.new)
-        → Appends (E.holds err.old) (E.holds err.new) (line_of (names_of (ask_view ask.now)) outcome) }
+        → Appends (E.holds err.old) (E.holds err.new) (line_of (limit_of (ask_view ask.now)) (names_of (ask_view ask.now)) outcome) }
 {
-    report(outcome, &names_in(ask), err);
+    report(outcome, limit_in(ask), &names_in(ask), err);
     match outcome {
         Ok(_) => 0,
         Err(refusal) => refusal.status(),
+    }
+}
+
+// The most groups that a command allows.
+fn limit_in(ask: &Ask<'_>) -> u32
+    ensures { result ≡ limit_of (ask_view ask.now) }
+{
+    match ask {
+        Ask::Query {
+            settings,
+            sql: _,
+            names: _,
+        } => settings.groups,
+        _ => 0,
     }
 }
 
@@ -73,15 +87,16 @@ fn names_in<'w>(ask: &'w Ask<'w>) -> Names<'w>
     }
 }
 
-/// Writes the line of a call over files of these names that came out so. Where a put fails, the rest of the line isn't written.
-pub fn report<E: Out>(outcome: Outcome, names: &Names<'_>, err: &mut E)
+/// Writes the line of a call with this limit on groups, over files of these names, that came out so. Where a put fails, the rest
+/// of the line isn't written.
+pub fn report<E: Out>(outcome: Outcome, limit: u32, names: &Names<'_>, err: &mut E)
     ensures { ¬ Rose (E.faults err.old) (E.faults err.new)
-        → Appends (E.holds err.old) (E.holds err.new) (line_of (names_view names.now) outcome) }
+        → Appends (E.holds err.old) (E.holds err.new) (line_of limit (names_view names.now) outcome) }
 {
     let _ = match outcome {
         Ok(done) => puts_done(err, done),
         Err(Refusal::Words) => puts(err, "snel: words not understood\n"),
-        Err(Refusal::Query(fault)) => puts_refused(err, fault, names),
+        Err(Refusal::Query(fault)) => puts_refused(err, fault, limit, names),
         Err(Refusal::Pack(fault)) => puts_unpacked(err, fault, names),
     };
 }
@@ -218,7 +233,8 @@ fn puts_about<E: Out>(err: &mut E, names: &Names<'_>, file: u32, what: &str) -> 
 // The line of a bad block.
 fn puts_damaged<E: Out>(err: &mut E, names: &Names<'_>, file: u32, block: u32) -> Result<(), Failed>
     ensures line { OnOk result (Appends (E.holds err.old) (E.holds err.new)
-        (refusal_line (names_view names.now) (Refusal.Query (QueryFault.Damaged file block)))) }
+        (about (name_at (names_view names.now) file) (codes ": block " ++ (decimal block
+        ++ codes " is damaged\n")))) }
     ensures failed { OnErr result (Rose (E.faults err.old) (E.faults err.new)) }
 {
     puts_about(err, names, file, ": block ")?;
@@ -226,9 +242,14 @@ fn puts_damaged<E: Out>(err: &mut E, names: &Names<'_>, file: u32, block: u32) -
 }
 
 // The line of what stands against a query or files.
-fn puts_refused<E: Out>(err: &mut E, fault: QueryFault, names: &Names<'_>) -> Result<(), Failed>
+fn puts_refused<E: Out>(
+    err: &mut E,
+    fault: QueryFault,
+    limit: u32,
+    names: &Names<'_>,
+) -> Result<(), Failed>
     ensures line { OnOk result (Appends (E.holds err.old) (E.holds err.new)
-        (refusal_line (names_view names.now) (Refusal.Query fault))) }
+        (refusal_line limit (names_view names.now) (Refusal.Query fault))) }
     ensures failed { OnErr result (Rose (E.faults err.old) (E.faults err.new)) }
 {
     match fault {
@@ -236,6 +257,7 @@ fn puts_refused<E: Out>(err: &mut E, fault: QueryFault, names: &Names<'_>) -> Re
         QueryFault::Absent(file) => puts_about(err, names, file, ": no such file\n"),
         QueryFault::NotAFile(file) => puts_about(err, names, file, ": not a block file\n"),
         QueryFault::Damaged { file, block } => puts_damaged(err, names, file, block),
+        QueryFault::Groups => puts_numbered(err, "snel: more than ", limit, " groups\n"),
         QueryFault::ReadFault => puts(err, "snel: files: read failed\n"),
         QueryFault::WriteFault => puts(err, "snel: write failed\n"),
         QueryFault::OutOfMemory => puts(err, "snel: out of memory\n"),
@@ -245,7 +267,7 @@ fn puts_refused<E: Out>(err: &mut E, fault: QueryFault, names: &Names<'_>) -> Re
 // The line of what stands against packing.
 fn puts_unpacked<E: Out>(err: &mut E, fault: PackFault, names: &Names<'_>) -> Result<(), Failed>
     ensures line { OnOk result (Appends (E.holds err.old) (E.holds err.new)
-        (refusal_line (names_view names.now) (Refusal.Pack fault))) }
+        (pack_line (names_view names.now) fault)) }
     ensures failed { OnErr result (Rose (E.faults err.old) (E.faults err.new)) }
 {
     match fault {

@@ -29,14 +29,14 @@ use std::thread::Threads;
 ///
 /// Answers, listings and counts go to `out`; a status other than 0 writes its line to `err`, and a query with `--stats` its counts.
 pub fn snel<R: Threads + Sync, F: Files, I: Input + Send, O: Out, E: Out, G: Gate + Sync>(
-    _rt: &R,
+    rt: &R,
     alloc: Global,
     words: &Words,
     files: &mut F,
     input: &mut I,
     out: &mut O,
     err: &mut E,
-    _gate: &G,
+    gate: &G,
 ) -> u8
     // The bytes that a query writes are those of an answer: all of them at status 0, else a prefix.
     ensures headline { Headline (asked words.now) (F.told files.old) result (O.holds out.old)
@@ -82,7 +82,7 @@ pub fn snel<R: Threads + Sync, F: Files, I: Input + Send, O: Out, E: Out, G: Gat
 {
     match read_words(alloc, words) {
         Ok(ask) => {
-            let outcome = obey(alloc, &ask, files, input, out);
+            let outcome = obey(rt, alloc, &ask, files, input, out, gate);
             end(outcome, &ask, err)
         }
         Err(_) => {
@@ -93,14 +93,16 @@ pub fn snel<R: Threads + Sync, F: Files, I: Input + Send, O: Out, E: Out, G: Gat
 }
 
 // Does what is asked, and answers how it came out.
-fn obey<F: Files, I: Input, O: Out>(
+fn obey<R: Threads + Sync, F: Files, I: Input, O: Out, G: Gate + Sync>(
+    rt: &R,
     alloc: Global,
     ask: &Ask<'_>,
     files: &mut F,
     input: &mut I,
     out: &mut O,
+    gate: &G,
 ) -> Outcome
-    requires { HasNames (ask_view ask.now) }
+    requires asked { HasNames (ask_view ask.now) }
     ensures headline { Headline (ask_view ask.now) (F.told files.old) (status_after result)
         (O.holds out.old) (O.holds out.new) }
     ensures ends { Ends (ask_view ask.now) (F.told files.old) (I.left input.old)
@@ -136,7 +138,7 @@ fn obey<F: Files, I: Input, O: Out>(
             settings,
             sql,
             names,
-        } => query_files(alloc, *settings, sql, names, files, out),
+        } => query_files(rt, alloc, *settings, sql, names, files, out, gate),
         Ask::Check { names } => check_named(alloc, names, files, out),
         Ask::Pack { packing, name } => pack_lines(alloc, packing, name, files, input, out),
         Ask::Explain { sql } => explain_text(alloc, sql, out),
@@ -144,16 +146,20 @@ fn obey<F: Files, I: Input, O: Out>(
 }
 
 // Answers a query over files.
-fn query_files<F: Files, O: Out>(
+fn query_files<R: Threads + Sync, F: Files, O: Out, G: Gate + Sync>(
+    rt: &R,
     alloc: Global,
     settings: Settings,
     sql: &str,
     names: &Words,
     files: &mut F,
     out: &mut O,
+    gate: &G,
 ) -> Outcome
     requires some { 1 ≤ length names.now }
     requires few { length names.now ≤ 64 }
+    requires some_workers { 1 ≤ settings.workers }
+    requires few_workers { settings.workers ≤ 64 }
     ensures headline { Headline (query settings sql.now names.now) (F.told files.old)
         (status_after result) (O.holds out.old) (O.holds out.new) }
     ensures ends { Ends (query settings sql.now names.now) (F.told files.old) None
@@ -174,7 +180,11 @@ fn query_files<F: Files, O: Out>(
     ensures told { F.told files.new ≡ F.told files.old }
     ensures written { F.write_faults files.new ≡ F.write_faults files.old }
 {
-    match run_query(alloc, sql, names, files, out) {
+    let how = query_run::Settings {
+        workers: settings.workers,
+        groups: settings.groups,
+    };
+    match run_query(rt, alloc, sql, names, &how, files, out, gate) {
         Ok(sum) => Ok(done_of(settings.stats, &sum)),
         Err(fault) => Err(Refusal::Query(fault)),
     }

@@ -8,8 +8,9 @@ use Rattle.std.specs.Fmt.{decimal}
 use Rattle.std.specs.Option.{option_map}
 use Rattle.std.proofs.lemmas.Bool.{leb-true}
 use Rattle.snel_words.specs.declared.ask.Settings.{Settings}
+use Rattle.snel_words.specs.declared.fronts.Limits.{Limits}
 use Rattle.snel_words.specs.Words.{Ask, Packing, nothing, query, check, pack, explain, is_operand, is_field, number_in, are_files, groups, workers, block_weights, setting, flag, time_field, query_of, check_of, pack_of, explain_of, after_groups, after_workers, after_block, after_time, asked_query, asked_pack, asked}
-use Rattle.snel_words.specs.NamedFiles.{AreFew, IsWithinLimits, HasNames}
+use Rattle.snel_words.specs.NamedFiles.{AreFew, AreSettings, IsWithinLimits, HasNames}
 use Rattle.snel_words.proofs.Numbers.{first_of, second_of}
 
 few : (names : List (List ℕ)) → are_files names ≡ true → AreFew names
@@ -26,14 +27,14 @@ right_of : (a b : Bool) → (a && b) ≡ true → b ≡ true
 right_of true b e = e
 right_of false b e = absurd (cc)
 
-chosen_query : (settings : Settings) (sql : List ℕ) (names : List (List ℕ)) (b : Bool) → (b ≡ true → AreFew names) → HasNames (if b then query settings sql names else nothing)
-chosen_query settings sql names true h = h refl
-chosen_query settings sql names false h = tt
+chosen_query : (settings : Settings) (sql : List ℕ) (names : List (List ℕ)) (b : Bool) → AreSettings settings → (b ≡ true → AreFew names) → HasNames (if b then query settings sql names else nothing)
+chosen_query settings sql names true within h = (h refl, within)
+chosen_query settings sql names false within h = tt
 
-of_query : (settings : Settings) (ws : List (List ℕ)) → HasNames (query_of settings ws)
+of_query : (settings : Settings) → AreSettings settings → (ws : List (List ℕ)) → HasNames (query_of settings ws)
 unfolding query_of
-of_query settings [] = tt
-of_query settings (sql ∷ names) = chosen_query settings sql names (is_operand sql && are_files names) (λ e. few names (right_of (is_operand sql) (are_files names) e))
+of_query settings within [] = tt
+of_query settings within (sql ∷ names) = chosen_query settings sql names (is_operand sql && are_files names) within (λ e. few names (right_of (is_operand sql) (are_files names) e))
 
 chosen_check : (names : List (List ℕ)) (b : Bool) → (b ≡ true → AreFew names) → HasNames (if b then check names else nothing)
 chosen_check names true h = h refl
@@ -53,17 +54,45 @@ of_explain [] = tt
 of_explain (sql ∷ []) = chosen_explain sql (is_operand sql)
 of_explain (sql ∷ w ∷ ws) = tt
 
-of_groups : (n : ℕ) (found : Option (ℕ × List (List ℕ))) → HasNames (after_groups n found)
-of_groups n None = tt
-of_groups n (Some found) = of_query (record { workers = n; groups = found.0; stats = (flag (codes "--stats") found.1).0 }) (flag (codes "--stats") found.1).1
+-- the number of a setting lies within its limits
+abbrev IsIn : Limits → Option (ℕ × List (List ℕ)) → Type 0
+IsIn limits found = IfSome found (λ p. (limits.least ≤ p.0) × (p.0 ≤ limits.most))
 
-of_workers : (found : Option (ℕ × List (List ℕ))) → HasNames (after_workers found)
-of_workers None = tt
-of_workers (Some found) = of_groups found.0 (setting (codes "--groups") groups found.1)
+number_within : (limits : Limits) (n : ℕ) (rest : List (List ℕ)) (a b c : Bool) → (b ≡ true → limits.least ≤ n) → (c ≡ true → n ≤ limits.most) → IsIn limits (option_map (λ n. (n, rest)) (if a && b && c then Some n else None))
+number_within limits n rest true true true h k = (h refl, k refl)
+number_within limits n rest true true false h k = tt
+number_within limits n rest true false c h k = tt
+number_within limits n rest false b c h k = tt
+
+number_is_within : (limits : Limits) (word : List ℕ) (rest : List (List ℕ)) → IsIn limits (option_map (λ n. (n, rest)) (number_in limits word))
+unfolding number_in
+number_is_within limits word rest =
+    number_within limits (digits_value 10 word) rest (bytes_eq word (decimal (digits_value 10 word))) (nat_le limits.least (digits_value 10 word)) (nat_le (digits_value 10 word) limits.most)
+    (leb-true limits.least (digits_value 10 word)) (leb-true (digits_value 10 word) limits.most)
+
+chosen_number : (limits : Limits) → limits.least ≤ limits.usual → limits.usual ≤ limits.most → (word value : List ℕ) (rest : List (List ℕ)) (b : Bool) → IsIn limits (if b then option_map (λ n. (n, rest)) (number_in limits value) else Some (limits.usual, word ∷ value ∷ rest))
+chosen_number limits least most word value rest true = number_is_within limits value rest
+chosen_number limits least most word value rest false = (least, most)
+
+setting_within : (name : List ℕ) (limits : Limits) → limits.least ≤ limits.usual → limits.usual ≤ limits.most → (ws : List (List ℕ)) → IsIn limits (setting name limits ws)
+unfolding setting
+setting_within name limits least most [] = (least, most)
+setting_within name limits least most (word ∷ []) = (least, most)
+setting_within name limits least most (word ∷ value ∷ rest) = chosen_number limits least most word value rest (bytes_eq word name)
+
+of_groups : (n : ℕ) → 1 ≤ n → n ≤ 64 → (found : Option (ℕ × List (List ℕ))) → IsIn groups found → HasNames (after_groups n found)
+of_groups n some few None within = tt
+of_groups n some few (Some found) within =
+    of_query (record { workers = n; groups = found.0; stats = (flag (codes "--stats") found.1).0 })
+    (record { some_workers = some; few_workers = few; some_groups = within.0; few_groups = within.1 }) (flag (codes "--stats") found.1).1
+
+of_workers : (found : Option (ℕ × List (List ℕ))) → IsIn workers found → HasNames (after_workers found)
+of_workers None within = tt
+of_workers (Some found) within = of_groups found.0 within.0 within.1 (setting (codes "--groups") groups found.1) (setting_within (codes "--groups") groups (omega arith) (omega arith) found.1)
 
 of_settings : (ws : List (List ℕ)) → HasNames (asked_query ws)
 unfolding asked_query
-of_settings ws = of_workers (setting (codes "--workers") workers ws)
+of_settings ws = of_workers (setting (codes "--workers") workers ws) (setting_within (codes "--workers") workers (omega arith) (omega arith) ws)
 
 chosen : (a b : Ask) (c : Bool) → HasNames a → HasNames b → HasNames (if c then a else b)
 chosen a b true h k = h
@@ -93,30 +122,6 @@ time_is_named [] = tt
 time_is_named (word ∷ []) = tt
 time_is_named (word ∷ value ∷ rest) = chosen_time word value rest (bytes_eq word (codes "--time")) (is_field value) (field_limits value)
 
-abbrev IsLow : Option (ℕ × List (List ℕ)) → Type 0
-IsLow found = IfSome found (λ p. p.0 ≤ 1000000)
-
-number_low : (n : ℕ) (rest : List (List ℕ)) (a b c : Bool) → (c ≡ true → n ≤ 1000000) → IsLow (option_map (λ n. (n, rest)) (if a && b && c then Some n else None))
-number_low n rest true true true h = h refl
-number_low n rest true true false h = tt
-number_low n rest true false c h = tt
-number_low n rest false b c h = tt
-
-number_is_low : (word : List ℕ) (rest : List (List ℕ)) → IsLow (option_map (λ n. (n, rest)) (number_in block_weights word))
-unfolding number_in
-number_is_low word rest =
-    number_low (digits_value 10 word) rest (bytes_eq word (decimal (digits_value 10 word))) (nat_le 1024 (digits_value 10 word)) (nat_le (digits_value 10 word) 1000000) (leb-true (digits_value 10 word) 1000000)
-
-chosen_block : (word value : List ℕ) (rest : List (List ℕ)) (b : Bool) → IsLow (if b then option_map (λ n. (n, rest)) (number_in block_weights value) else Some (1000000, word ∷ value ∷ rest))
-chosen_block word value rest true = number_is_low value rest
-chosen_block word value rest false = omega arith
-
-block_is_low : (ws : List (List ℕ)) → IsLow (setting (codes "--block") block_weights ws)
-unfolding setting
-block_is_low [] = omega arith
-block_is_low (word ∷ []) = omega arith
-block_is_low (word ∷ value ∷ rest) = chosen_block word value rest (bytes_eq word (codes "--block"))
-
 chosen_pack : (packing : Packing) (name : List ℕ) (b : Bool) → IsWithinLimits packing → HasNames (if b then pack packing name else nothing)
 chosen_pack packing name true h = h
 chosen_pack packing name false h = tt
@@ -127,14 +132,14 @@ of_name packing [] h = tt
 of_name packing (name ∷ []) h = chosen_pack packing name (is_operand name) h
 of_name packing (name ∷ w ∷ ws) h = tt
 
-of_block : (time : Option (List ℕ)) (found : Option (ℕ × List (List ℕ))) → IsNamed time → IsLow found → HasNames (after_block time found)
+of_block : (time : Option (List ℕ)) (found : Option (ℕ × List (List ℕ))) → IsNamed time → IsIn block_weights found → HasNames (after_block time found)
 of_block time None named low = tt
 of_block time (Some found) named low =
-    of_name (record { time = time; block = found.0; drops = (flag (codes "--drop-fractions") found.1).0 }) (flag (codes "--drop-fractions") found.1).1 (record { block = low; time = named })
+    of_name (record { time = time; block = found.0; drops = (flag (codes "--drop-fractions") found.1).0 }) (flag (codes "--drop-fractions") found.1).1 (record { block = low.1; time = named })
 
 of_time : (found : Option (Option (List ℕ) × List (List ℕ))) → TimeIsNamed found → HasNames (after_time found)
 of_time None named = tt
-of_time (Some found) named = of_block found.0 (setting (codes "--block") block_weights found.1) named (block_is_low found.1)
+of_time (Some found) named = of_block found.0 (setting (codes "--block") block_weights found.1) named (setting_within (codes "--block") block_weights (omega arith) (omega arith) found.1)
 
 of_pack : (ws : List (List ℕ)) → HasNames (asked_pack ws)
 unfolding asked_pack

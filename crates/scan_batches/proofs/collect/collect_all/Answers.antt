@@ -2,7 +2,7 @@ use Rattle.std.proofs.Common.{◌+◌, ◌*◌, ◌<◌, length, refl, sym, ◌�
 use Rattle.scan_meaning.specs.Blocks.{Place}
 use Rattle.scan_files.specs.Places.{IsPlaced}
 use Rattle.scan_files.proofs.Parts.{All_part, room_more}
-use Rattle.scan_batches.proofs.Gathering.{starts, room, ends, stopped, more, part_few, room_within}
+use Rattle.scan_batches.proofs.Gathering.{starts, room, ends, stopped, came_to, more, part_few, room_within}
 use Rattle.scan_batches.proofs.collect.collect_all.Goals as goal
 
 pub loop-number-init : goal.loop-number-init
@@ -62,3 +62,8 @@ loop-number-preserved g c =
 pub returns-clause-gathered : goal.returns-clause-gathered
 returns-clause-gathered g c =
     ends _ (g.C.BatchCollector.query c.args.collector.now) c.args.names.now c.args.fields.now c.args.places.now c.loop-number.number _ _ _ c.loop-number.invariant.gathering (omega arith) (omega arith)
+
+pub returns-in-Err-clause-stopped : goal.returns-in-Err-clause-stopped
+returns-in-Err-clause-stopped g c =
+    came_to _ (g.C.BatchCollector.query c.args.collector.now) c.args.names.now c.args.fields.now c.args.places.now c.loop-number.number _ _ _ c.loop-number.invariant.gathering
+    c.batch_of-batch.result.now c.batch_of-batch.ensures c.in-Err.fault _ _ _ c.loop-number.invariant.most c.collect_batch.ensures.most

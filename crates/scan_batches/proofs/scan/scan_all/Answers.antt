@@ -23,7 +23,7 @@ loop-number-init g c = record {
 pub returns-then-is_full-clause-outcome : goal.returns-then-is_full-clause-outcome
 returns-then-is_full-clause-outcome g c =
     ends_full _ (g.S.BatchScanner.query c.args.scanner.now) c.requires.plain c.args.names.now c.args.fields.now c.args.places.now c.loop-number.number _ _ _ _ _ _ _ c.loop-number.invariant.underway
-    (c.is_full.ensures.dropped c.if-is_full.true) (c.is_full.ensures.taken c.if-is_full.true) (64 * c.loop-number.number) refl (omega arith)
+    c.requires.few (c.is_full.ensures.dropped c.if-is_full.true) (c.is_full.ensures.taken c.if-is_full.true) (64 * c.loop-number.number) refl (omega arith)
 
 pub returns-then-is_full-clause-cost : goal.returns-then-is_full-clause-cost
 returns-then-is_full-clause-cost g c =
@@ -90,7 +90,7 @@ loop-number-preserved g c =
 pub returns-clause-outcome : goal.returns-clause-outcome
 returns-clause-outcome g c =
     ends_all _ (g.S.BatchScanner.query c.args.scanner.now) c.requires.plain c.args.names.now c.args.fields.now c.args.places.now c.loop-number.number _ _ _ _ _ _ _ c.loop-number.invariant.underway
-    (length c.args.places.now) refl (omega arith)
+    c.requires.few (length c.args.places.now) refl (omega arith)
 
 pub returns-clause-cost : goal.returns-clause-cost
 returns-clause-cost g c =

@@ -11,7 +11,7 @@ pub returns-in-Ok-clause-headline : goal.returns-in-Ok-clause-headline
 returns-in-Ok-clause-headline g c = of_files _ 0 _ _ c.args.settings _ _ c.in-Ok.ensures.headline
 
 pub returns-in-Ok-clause-stopped : goal.returns-in-Ok-clause-stopped
-returns-in-Ok-clause-stopped g c = stops_not _ _ _ _ _ _ _ 0 (λ e. omega (arith, e)) (λ e. omega (arith, e))
+returns-in-Ok-clause-stopped g c = stops_not _ _ _ _ _ _ _ 0 (λ e. omega (arith, e)) (λ e. omega (arith, e)) (λ e. omega (arith, e)) (λ e. omega (arith, e))
 
 pub returns-in-Ok-clause-cause : goal.returns-in-Ok-clause-cause
 returns-in-Ok-clause-cause g c =
@@ -37,7 +37,7 @@ pub returns-in-Err-clause-stopped : goal.returns-in-Err-clause-stopped
 returns-in-Err-clause-stopped g c = stops _ _ _ _ _ _ QuerySum _ c.in-Err.fault c.in-Err.ensures.stopped
 
 pub returns-in-Err-clause-cause : goal.returns-in-Err-clause-cause
-returns-in-Err-clause-cause g c = query_cause QuerySum Done c.args.sql.now c.args.names.now (g.F.Files.told c.args.files.now) c.in-Err.fault c.in-Err.ensures.cause
+returns-in-Err-clause-cause g c = query_cause QuerySum Done c.args.sql.now c.args.settings.groups c.args.names.now (g.F.Files.told c.args.files.now) c.in-Err.fault c.in-Err.ensures.cause
 
 pub returns-in-Err-clause-absent : goal.returns-in-Err-clause-absent
 returns-in-Err-clause-absent g c e = c.in-Err.ensures.absent (is_absent QuerySum c.in-Err.fault e)

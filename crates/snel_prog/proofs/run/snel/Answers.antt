@@ -8,7 +8,7 @@ use Rattle.snel_words.specs.Asked.{ask_view}
 use Rattle.snel_words.specs.NamedFiles.{HasNames}
 use Rattle.snel_words.proofs.NamedFiles.{asked_has_names}
 use Rattle.snel_prog.specs.Outcomes.{status_after}
-use Rattle.snel_prog.specs.Lines.{names_of, line_of}
+use Rattle.snel_prog.specs.Lines.{limit_of, names_of, line_of}
 use Rattle.snel_prog.specs.Causes.{Says}
 use Rattle.snel_prog.specs.Ends.{Ends}
 use Rattle.snel_prog.specs.Effects.{ReadsBytes, ChangesFiles, WritesFiles, TakesInput, ReadFailed, WriteFailed}
@@ -20,8 +20,8 @@ use Rattle.snel_prog.proofs.Memory as memory
 use Rattle.snel_prog.proofs.Comes.{comes}
 use Rattle.snel_prog.proofs.run.snel.Goals as goal
 
-pub obey-outcome-requires : goal.obey-outcome-requires
-obey-outcome-requires g c = subst HasNames (sym c.in-Ok.ensures) (asked_has_names c.args.words.now)
+pub obey-outcome-requires-clause-asked : goal.obey-outcome-requires-clause-asked
+obey-outcome-requires-clause-asked g c = λ κs into. subst HasNames (sym c.in-Ok.ensures) (asked_has_names c.args.words.now)
 
 pub returns-in-Ok-clause-headline : goal.returns-in-Ok-clause-headline
 returns-in-Ok-clause-headline g c =
@@ -54,7 +54,7 @@ returns-in-Ok-clause-cause g c =
       is = c.end.ensures.status;
       says = subst (λ (a : Ask). Says a (g.F.Files.told c.args.files.now) (g.I.Input.left c.args.input.now) c.obey-outcome.result) c.in-Ok.ensures c.obey-outcome.ensures.cause;
       line = subst (λ (a : Ask). ¬ Rose (g.E.Out.faults c.args.err.now) (g.E.Out.faults c.end.new.err)
-          → Appends (g.E.Out.holds c.args.err.now) (g.E.Out.holds c.end.new.err) (line_of (names_of a) c.obey-outcome.result)) c.in-Ok.ensures c.end.ensures.line;
+          → Appends (g.E.Out.holds c.args.err.now) (g.E.Out.holds c.end.new.err) (line_of (limit_of a) (names_of a) c.obey-outcome.result)) c.in-Ok.ensures c.end.ensures.line;
     }
 
 pub returns-in-Ok-clause-absent : goal.returns-in-Ok-clause-absent
