@@ -18,7 +18,7 @@ use Rattle.scan_meaning.proofs.Plain.{passed-append}
 use Rattle.scan_files.specs.Places.{block_at, blocks_at, room_of}
 use Rattle.scan_files.proofs.Parts.{batch_at, room_more, room_front}
 use Rattle.scan_batches.specs.Scans.{chunks_of, NamesBlock}
-use Rattle.scan_batches.specs.Gathers.{HasRoom, Gathers, Gathered, StopsGathering}
+use Rattle.scan_batches.specs.Gathers.{Gathers, Gathered, StopsGathering}
 use Rattle.scan_batches.specs.declared.fault.ScanFault.{ScanFault}
 use Rattle.scan_batches.specs.declared.fault.ScanFault.TheVariants.{Damaged, ReadFault, WriteFault, OutOfMemory}
 use Rattle.scan_batches.proofs.Few.{rows_few, chunks_few, passed_few}
@@ -65,9 +65,6 @@ Collected told q names fields part stands now_stands chunks now_chunks kept now_
     × ((rows : List Val) → stands rows → Gathers q more rows now_stands chunks now_chunks kept now_kept)
 
 module _ (told : Option Contents) (q : Query) (names fields : List (List ℕ)) (ps : List Place) (j : ℕ) (stands : List Val → Type 0) (chunks kept : ℕ) (g : Gathering told q names fields ps j stands chunks kept) where
-  pub room : 64 * j ≤ 2 ^ 26 → HasRoom stands
-  room le = let few = rows_few g.bs in let count = g.count in (rows_of g.bs, g.stand, omega arith)
-
   pub ends : length ps ≤ 64 * j → 64 * j ≤ 2 ^ 26 → (bs : List Block) × ForSome told (λ files. bs ≡ blocks_at files names fields ps) × Gathered q bs stands chunks kept
   ends all le =
       let few = rows_few g.bs in

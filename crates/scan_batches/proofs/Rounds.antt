@@ -8,8 +8,7 @@ use Rattle.snel_device.specs.Contents.{Contents}
 use Rattle.snel_device.specs.Causes.{raised}
 use Rattle.tree_meaning.specs.Tree.{Query}
 use Rattle.scan_meaning.specs.Blocks.{Place, Block}
-use Rattle.scan_meaning.specs.Batches.{rows_of, first_bad, front, batch, size_of, is_plain, need, IsShort, BatchCounts, Counts}
-use Rattle.scan_meaning.specs.Answers.{AddsAnswer, IsPrefix}
+use Rattle.scan_meaning.specs.Batches.{first_bad, front, batch, size_of, is_plain, need, IsShort, BatchCounts, Counts}
 use Rattle.scan_meaning.specs.Answers.{StopsPutting}
 use Rattle.scan_meaning.proofs.Batches.{among, size_within}
 use Rattle.scan_meaning.proofs.Plain.{cut_both, cut_none}

@@ -9,10 +9,6 @@ use Rattle.scan_batches.specs.Scans.{chunks_of}
 use Rattle.scan_batches.specs.declared.fault.ScanFault.{ScanFault}
 use Rattle.scan_batches.specs.declared.fault.ScanFault.TheVariants.{ReadFault}
 
--- it stands for some rows, and for no more than 2^26 blocks of 2^16 rows have
-abbrev pub HasRoom : (List Val → Type 0) → Type 0
-HasRoom stands = (rows : List Val) × stands rows × (length rows ≤ 2 ^ 42)
-
 -- None of the blocks is bad, what stood for some rows stands for theirs behind them, and their chunks and the rows that passed were counted.
 -- Counts stand still at their end.
 pub record Gathers (q : Query) (bs : List Block) (rows : List Val) (stands : List Val → Type 0) (chunks now_chunks kept now_kept : ℕ) : Type 0 where
