@@ -11,7 +11,7 @@ ghost use Rattle.scan_meaning.specs.Blocks.{Block};
 ghost use Rattle.scan_meaning.specs.Batches.{first_bad};
 ghost use Rattle.scan_files.specs.Places.{blocks_at, IsPlaced, room_of};
 ghost use Rattle.scan_batches.specs.Scans.{IsReading, NamesBlock};
-ghost use Rattle.scan_batches.specs.Gathers.{Gathers, Gathered};
+ghost use Rattle.scan_batches.specs.Gathers.{Gathers, Gathered, StopsGathering};
 ghost use Rattle.batch_rows.specs.Grown.{GrewByRows};
 
 use block_lines::LineHeads;
@@ -62,6 +62,9 @@ pub fn gather_all<R: Threads + Sync, G: Gate + Sync, S: SharedSink, F: Files>(
     ensures bad { IfErr result (λ fault. ForSome (F.told files.old) (λ told. NamesBlock fault
         (λ b. first_bad (blocks_at told names.now fields.now places.now) ≡ Some b))) }
     ensures reading { IfErr result (λ fault. IsReading fault) }
+    ensures stopped { IfErr result (λ fault. ForSome (F.told files.old)
+        (λ told. StopsGathering fault (blocks_at told names.now fields.now places.now)
+        (F.taken files.old) (F.taken files.new))) }
     ensures most { F.taken files.new ≤ F.taken files.old + room_of places.now }
     ensures later { F.taken files.old ≤ F.taken files.new }
     ensures fault { HasCause (F.read_faults files.old) (F.read_faults files.new)

@@ -6,12 +6,11 @@ use Rattle.tree_meaning.specs.Tree.{Query}
 use Rattle.query_meaning.specs.Faults.{ComesTo, is_query}
 use Rattle.program_meaning.specs.Jobs.{Job}
 use Rattle.program_meaning.specs.Simulation.{Simulates}
-use Rattle.scan_meaning.specs.Batches.{is_plain}
 use Rattle.scan_meaning.specs.Verdicts.{Verdict, Finds}
 use Rattle.scan_meaning.specs.Answers.{EndsAs}
 use Rattle.scan_meaning.specs.Causes.{StaysWithin}
 use Rattle.scan_meaning.proofs.Ended.{ended_is_answered}
-use Rattle.query_run.specs.Queries.{Accepts, IsRefused}
+use Rattle.query_run.specs.Queries.{is_built, Accepts, IsRefused}
 use Rattle.query_run.specs.TextFaults.{refused_view}
 use Rattle.query_run.specs.Jobs.{Compiles}
 use Rattle.query_run.specs.Statuses.{status_of}
@@ -85,7 +84,7 @@ headline sql limit names told status old new ends = record {
 -- the one query of an accepted text
 module _ (sql : List ℕ) (q : Query) (comes : ComesTo sql (is_query q)) (job : Job) (compiles : Compiles sql job) where
   pub accepts_it : Accepts sql q
-  accepts_it = record { comes = comes; faultless = subst (λ (p : Query). fault_of p ≡ None) same compiles.accepts.faultless; built = subst (λ (p : Query). is_plain p ≡ true) same compiles.accepts.built }
+  accepts_it = record { comes = comes; faultless = subst (λ (p : Query). fault_of p ≡ None) same compiles.accepts.faultless; built = subst (λ (p : Query). is_built p ≡ true) same compiles.accepts.built }
     where
       same : compiles.q ≡ q
       same = same_query sql compiles.q q compiles.accepts.comes comes

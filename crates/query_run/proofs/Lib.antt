@@ -5,6 +5,7 @@ mod Refusing
 mod Surveyed
 mod PlainEnding
 mod GatheredEnding
+mod GroupsEnding
 mod Asking
 pub mod Built
 mod SomeNamed

@@ -1,8 +1,8 @@
 //! From the text of a query to its job.
 ghost use Rattle.std.specs.Prelude.{◌≡◌, ℕ, List, IfOk, IfErr};
 ghost use Rattle.query_meaning.specs.Faults.{ComesTo, is_query};
-ghost use Rattle.scan_meaning.specs.Batches.{is_plain};
 ghost use Rattle.query_run.specs.Jobs.{Compiles};
+ghost use Rattle.query_run.specs.Queries.{is_built as of_built_form};
 ghost use Rattle.query_run.specs.Faults.{SaysOfText};
 
 use crate::accept::accept;
@@ -44,7 +44,7 @@ pub(crate) fn job_of(alloc: Global, checked: &Checked) -> Result<Job, QueryFault
 
 /// Whether queries of its form are answered.
 fn is_built(checked: &Checked) -> bool
-    ensures { result ≡ is_plain checked.now }
+    ensures { result ≡ of_built_form checked.now }
 {
-    !checked.grouped() && checked.query().order.len() == 0
+    checked.grouped() || checked.query().order.len() == 0
 }

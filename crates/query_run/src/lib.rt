@@ -6,6 +6,7 @@
 mod accept;
 mod checking;
 mod compile;
+mod groups;
 mod listing;
 mod plain;
 mod query;

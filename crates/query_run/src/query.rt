@@ -1,11 +1,12 @@
 //! A query over files: from its text to its lines.
-ghost use Rattle.std.specs.Prelude.{◌≡◌, ◌<◌, ◌≤◌, true, length, IfOk, IsErrOf};
-ghost use Rattle.snel_device.specs.Causes.{Rose};
+ghost use Rattle.std.specs.Prelude.{◌≡◌, ◌+◌, ◌^◌, ◌<◌, ◌≤◌, ℕ, true, length, All, IfOk, IsErrOf};
+ghost use Rattle.std.specs.Option.{ForSome};
+ghost use Rattle.snel_device.specs.Causes.{Rose, HasCause};
 ghost use Rattle.tree_meaning.specs.Tree.{Query as QueryTree};
-ghost use Rattle.query_tree.specs.Queries.{query_view};
 ghost use Rattle.program_meaning.specs.Simulation.{Simulates};
-ghost use Rattle.scan_meaning.specs.Batches.{is_plain};
-ghost use Rattle.query_run.specs.Queries.{Accepts};
+ghost use Rattle.scan_meaning.specs.Causes.{index_costs};
+ghost use Rattle.scan_files.specs.Surveys.{Surveys};
+ghost use Rattle.query_run.specs.Queries.{is_built, Accepts};
 ghost use Rattle.query_run.specs.Statuses.{status_after, IsAbsent};
 ghost use Rattle.query_run.specs.Headline.{Headline};
 ghost use Rattle.query_run.specs.Ends.{Ends, Reads};
@@ -15,13 +16,14 @@ ghost use Rattle.query_run.specs.Sums.{SumsUp};
 
 use crate::accept::accept;
 use crate::compile::job_of;
+use crate::groups::run_groups;
 use crate::plain::run_plain;
 use crate::query_fault::QueryFault;
 use crate::settings::Settings;
 use crate::sum::QuerySum;
 use lane_ssa::Job;
-use query_tree::Query;
-use scan_files::{FilesFault, find_places};
+use query_check::Checked;
+use scan_files::{FilesFault, Survey, find_places};
 use snel_device::{Files, Gate, Out};
 use snel_values::Words;
 use std::alloc::Global;
@@ -83,38 +85,28 @@ pub fn run_query<R: Threads + Sync, F: Files, O: Out, G: Gate + Sync>(
         Ok(job) => job,
         Err(fault) => return Err(fault),
     };
-    run_job(
-        rt,
-        alloc,
-        checked.query(),
-        &job,
-        names,
-        settings,
-        files,
-        out,
-        gate,
-    )
+    run_job(rt, alloc, &checked, &job, names, settings, files, out, gate)
 }
 
 // Answers a query that the job simulates.
 fn run_job<R: Threads + Sync, F: Files, O: Out, G: Gate + Sync>(
-    _rt: &R,
+    rt: &R,
     alloc: Global,
-    query: &Query,
+    checked: &Checked,
     job: &Job,
     names: &Words,
     settings: &Settings,
     files: &mut F,
     out: &mut O,
-    _gate: &G,
+    gate: &G,
 ) -> Result<QuerySum, QueryFault>
     requires some { 1 ≤ length names.now }
     requires few { length names.now ≤ 64 }
     requires some_workers { 0 < settings.now.workers }
     requires few_workers { settings.now.workers ≤ 64 }
-    requires simulates { Simulates job.now (query_view query.now) }
-    requires plain { is_plain (query_view query.now) ≡ true }
-    ensures ran { RunsTo (query_view query.now) settings.now.groups names.now (F.told files.old)
+    requires simulates { Simulates job.now checked.now }
+    requires built { is_built checked.now ≡ true }
+    ensures ran { RunsTo checked.now settings.now.groups names.now (F.told files.old)
         result (F.taken files.old) (F.taken files.new) (O.holds out.old) (O.holds out.new) }
     ensures absent { IsAbsent result → Rose (F.misses files.old) (F.misses files.new) }
     ensures read_fault { IsErrOf result QueryFault.ReadFault
@@ -124,11 +116,67 @@ fn run_job<R: Threads + Sync, F: Files, O: Out, G: Gate + Sync>(
     ensures told { F.told files.new ≡ F.told files.old }
     ensures same_write_faults { F.write_faults files.new ≡ F.write_faults files.old }
 {
-    let found = match find_places(alloc, query, names, files) {
+    let found = match find_places(alloc, checked.query(), names, files) {
         Ok(found) => found,
         Err(fault) => return Err(of_files(fault)),
     };
-    run_plain(alloc, query, job, names, settings, &found, files, out)
+    run_found(
+        rt, alloc, checked, job, names, settings, &found, files, out, gate,
+    )
+}
+
+// Answers a query of whose files the indexes were read.
+fn run_found<R: Threads + Sync, F: Files, O: Out, G: Gate + Sync>(
+    rt: &R,
+    alloc: Global,
+    checked: &Checked,
+    job: &Job,
+    names: &Words,
+    settings: &Settings,
+    found: &Survey,
+    files: &mut F,
+    out: &mut O,
+    gate: &G,
+) -> Result<QuerySum, QueryFault>
+    requires some { 1 ≤ length names.now }
+    requires some_workers { 0 < settings.now.workers }
+    requires few_workers { settings.now.workers ≤ 64 }
+    requires simulates { Simulates job.now checked.now }
+    requires built { is_built checked.now ≡ true }
+    requires surveyed { ForSome (F.told files.old) (λ told. Surveys checked.now names.now
+        (length names.now) told found.now.fields found.now.places.items found.now.skipped) }
+    requires named { All (λ p. p.file < length names.now) found.now.places.items }
+    requires places { length found.now.places.items ≤ 2 ^ 26 }
+    ensures ran { (start : ℕ) → start ≤ F.taken files.old
+        → ForSome (F.told files.old)
+        (λ told. F.taken files.old ≤ start + index_costs told names.now)
+        → RunsTo checked.now settings.now.groups names.now (F.told files.old) result
+        start (F.taken files.new) (O.holds out.old) (O.holds out.new) }
+    ensures read_fault { HasCause (F.read_faults files.old) (F.read_faults files.new)
+        (IsErrOf result QueryFault.ReadFault) }
+    ensures write_fault { HasCause (O.faults out.old) (O.faults out.new)
+        (IsErrOf result QueryFault.WriteFault) }
+    ensures present { IsAbsent result → ⊥ }
+    ensures told { F.told files.new ≡ F.told files.old }
+    ensures same_misses { F.misses files.new ≡ F.misses files.old }
+    ensures same_write_faults { F.write_faults files.new ≡ F.write_faults files.old }
+{
+    if checked.grouped() {
+        run_groups(
+            rt, alloc, checked, job, names, settings, found, files, out, gate,
+        )
+    } else {
+        run_plain(
+            alloc,
+            checked.query(),
+            job,
+            names,
+            settings,
+            found,
+            files,
+            out,
+        )
+    }
 }
 
 // What stands against the files, as a fault of the query.

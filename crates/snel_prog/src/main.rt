@@ -6,6 +6,8 @@
 mod file_tests;
 #[cfg(test)]
 mod grid_tests;
+#[cfg(test)]
+mod group_tests;
 mod outcome;
 #[cfg(test)]
 mod pack_tests;

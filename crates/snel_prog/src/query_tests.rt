@@ -81,7 +81,7 @@ static EXPLAINED: [(&[&str], u8, &str, &str); 8] = [
         "snel: query: not a query\n",
     ),
     (
-        &["explain", "SELECT COUNT(*) FROM logs"],
+        &["explain", "SELECT a FROM logs ORDER BY a"],
         3,
         "",
         "snel: query: not built yet\n",

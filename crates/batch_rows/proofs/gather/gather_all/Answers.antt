@@ -3,7 +3,7 @@ use Rattle.query_tree.specs.Queries.{query_view}
 use Rattle.scan_meaning.specs.Blocks.{Place}
 use Rattle.scan_files.specs.Places.{IsPlaced}
 use Rattle.scan_files.proofs.Parts.{All_part, room_more}
-use Rattle.scan_batches.proofs.Gathering.{starts, ends, stopped, more, part_few, room_within}
+use Rattle.scan_batches.proofs.Gathering.{starts, ends, stopped, came_to, more, part_few, room_within}
 use Rattle.batch_rows.specs.Grown.{GrewByRows}
 use Rattle.batch_rows.proofs.Handing.{grown_by_none}
 use Rattle.batch_rows.proofs.gather.gather_all.Goals as goal
@@ -61,3 +61,8 @@ loop-number-preserved g c =
 pub returns-clause-gathered : goal.returns-clause-gathered
 returns-clause-gathered g c =
     ends _ (query_view c.args.query.now) c.args.names.now c.args.fields.now c.args.places.now c.loop-number.number _ _ _ c.loop-number.invariant.gathering (omega arith) (omega arith)
+
+pub returns-in-Err-clause-stopped : goal.returns-in-Err-clause-stopped
+returns-in-Err-clause-stopped g c =
+    came_to _ (query_view c.args.query.now) c.args.names.now c.args.fields.now c.args.places.now c.loop-number.number _ _ _ c.loop-number.invariant.gathering
+    c.batch_of-batch.result.now c.batch_of-batch.ensures c.in-Err.fault _ _ _ c.loop-number.invariant.most c.gather_batch.ensures.most

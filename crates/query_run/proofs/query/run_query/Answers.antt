@@ -1,7 +1,4 @@
-use Rattle.std.proofs.Common.{sym, subst}
 use Rattle.tree_meaning.specs.Tree.{Query}
-use Rattle.query_meaning.specs.Faults.{ComesTo, is_query}
-use Rattle.query_tree.specs.Queries.{query_view}
 use Rattle.std.specs.Prelude.{IfOk}
 use Rattle.query_run.specs.Statuses.{status_after}
 use Rattle.query_run.specs.Faults.{StopsSo}
@@ -38,41 +35,41 @@ returns-in-Err-job_of-clause-headline g c =
 
 pub run_job-requires-clause-simulates : goal.run_job-requires-clause-simulates
 run_job-requires-clause-simulates g c = λ κs into.
-    simulates_it c.args.sql.now (query_view c.query.result.now) (subst (λ (p : Query). ComesTo c.args.sql.now (is_query p)) (sym c.query.ensures.is) c.in-Ok.ensures.accepted) _ (c.in-Ok-job_of.ensures.compiled c.args.sql.now c.in-Ok.ensures.accepted)
+    simulates_it c.args.sql.now c.in-Ok.checked c.in-Ok.ensures.accepted _ (c.in-Ok-job_of.ensures.compiled c.args.sql.now c.in-Ok.ensures.accepted)
 
-pub run_job-requires-clause-plain : goal.run_job-requires-clause-plain
-run_job-requires-clause-plain g c = λ κs into.
-    (accepts_it c.args.sql.now (query_view c.query.result.now) (subst (λ (p : Query). ComesTo c.args.sql.now (is_query p)) (sym c.query.ensures.is) c.in-Ok.ensures.accepted) _ (c.in-Ok-job_of.ensures.compiled c.args.sql.now c.in-Ok.ensures.accepted)).built
+pub run_job-requires-clause-built : goal.run_job-requires-clause-built
+run_job-requires-clause-built g c = λ κs into.
+    (accepts_it c.args.sql.now c.in-Ok.checked c.in-Ok.ensures.accepted _ (c.in-Ok-job_of.ensures.compiled c.args.sql.now c.in-Ok.ensures.accepted)).built
 
 pub returns-clause-ends : goal.returns-clause-ends
 returns-clause-ends g c =
-    asked_ends c.args.sql.now (query_view c.query.result.now) (subst (λ (p : Query). ComesTo c.args.sql.now (is_query p)) (sym c.query.ensures.is) c.in-Ok.ensures.accepted) _ (c.in-Ok-job_of.ensures.compiled c.args.sql.now c.in-Ok.ensures.accepted)
+    asked_ends c.args.sql.now c.in-Ok.checked c.in-Ok.ensures.accepted _ (c.in-Ok-job_of.ensures.compiled c.args.sql.now c.in-Ok.ensures.accepted)
     c.args.settings.now.groups c.args.names.now (g.F.Files.told c.args.files.now) (status_after c.run_job.result) (g.O.Out.holds c.args.out.now) (g.O.Out.holds c.run_job.new.out) c.run_job.ensures.ran.ends
 
 pub returns-clause-headline : goal.returns-clause-headline
 returns-clause-headline g c =
     headline c.args.sql.now c.args.settings.now.groups c.args.names.now (g.F.Files.told c.args.files.now) (status_after c.run_job.result) (g.O.Out.holds c.args.out.now) (g.O.Out.holds c.run_job.new.out)
-    (asked_ends c.args.sql.now (query_view c.query.result.now) (subst (λ (p : Query). ComesTo c.args.sql.now (is_query p)) (sym c.query.ensures.is) c.in-Ok.ensures.accepted) _ (c.in-Ok-job_of.ensures.compiled c.args.sql.now c.in-Ok.ensures.accepted)
+    (asked_ends c.args.sql.now c.in-Ok.checked c.in-Ok.ensures.accepted _ (c.in-Ok-job_of.ensures.compiled c.args.sql.now c.in-Ok.ensures.accepted)
     c.args.settings.now.groups c.args.names.now (g.F.Files.told c.args.files.now) (status_after c.run_job.result) (g.O.Out.holds c.args.out.now) (g.O.Out.holds c.run_job.new.out) c.run_job.ensures.ran.ends)
 
 pub returns-clause-cause : goal.returns-clause-cause
 returns-clause-cause g c =
-    asked_cause c.args.sql.now (query_view c.query.result.now) (subst (λ (p : Query). ComesTo c.args.sql.now (is_query p)) (sym c.query.ensures.is) c.in-Ok.ensures.accepted) _ (c.in-Ok-job_of.ensures.compiled c.args.sql.now c.in-Ok.ensures.accepted)
+    asked_cause c.args.sql.now c.in-Ok.checked c.in-Ok.ensures.accepted _ (c.in-Ok-job_of.ensures.compiled c.args.sql.now c.in-Ok.ensures.accepted)
     c.args.settings.now.groups c.args.names.now (g.F.Files.told c.args.files.now) c.run_job.result c.run_job.ensures.ran.cause
 
 pub returns-clause-stopped : goal.returns-clause-stopped
 returns-clause-stopped g c =
-    only_it c.args.sql.now (query_view c.query.result.now) (subst (λ (p : Query). ComesTo c.args.sql.now (is_query p)) (sym c.query.ensures.is) c.in-Ok.ensures.accepted) _ (c.in-Ok-job_of.ensures.compiled c.args.sql.now c.in-Ok.ensures.accepted)
+    only_it c.args.sql.now c.in-Ok.checked c.in-Ok.ensures.accepted _ (c.in-Ok-job_of.ensures.compiled c.args.sql.now c.in-Ok.ensures.accepted)
     (λ (p : Query). StopsSo {A = QuerySum} p c.args.names.now (g.F.Files.told c.args.files.now) c.run_job.result (g.F.Files.taken c.args.files.now) (g.F.Files.taken c.run_job.new.files) (g.O.Out.holds c.args.out.now) (g.O.Out.holds c.run_job.new.out)) c.run_job.ensures.ran.stopped
 
 pub returns-clause-taken : goal.returns-clause-taken
 returns-clause-taken g c =
-    asked_reads c.args.sql.now (query_view c.query.result.now) (subst (λ (p : Query). ComesTo c.args.sql.now (is_query p)) (sym c.query.ensures.is) c.in-Ok.ensures.accepted) _ (c.in-Ok-job_of.ensures.compiled c.args.sql.now c.in-Ok.ensures.accepted)
+    asked_reads c.args.sql.now c.in-Ok.checked c.in-Ok.ensures.accepted _ (c.in-Ok-job_of.ensures.compiled c.args.sql.now c.in-Ok.ensures.accepted)
     c.args.names.now (g.F.Files.told c.args.files.now) (g.F.Files.taken c.args.files.now) (g.F.Files.taken c.run_job.new.files) c.run_job.ensures.ran.later c.run_job.ensures.ran.taken
 
 pub returns-clause-sum : goal.returns-clause-sum
 returns-clause-sum g c =
-    only_it c.args.sql.now (query_view c.query.result.now) (subst (λ (p : Query). ComesTo c.args.sql.now (is_query p)) (sym c.query.ensures.is) c.in-Ok.ensures.accepted) _ (c.in-Ok-job_of.ensures.compiled c.args.sql.now c.in-Ok.ensures.accepted)
+    only_it c.args.sql.now c.in-Ok.checked c.in-Ok.ensures.accepted _ (c.in-Ok-job_of.ensures.compiled c.args.sql.now c.in-Ok.ensures.accepted)
     (λ (p : Query). IfOk c.run_job.result (λ s. SumsUp p c.args.names.now (g.F.Files.told c.args.files.now) s)) c.run_job.ensures.ran.sum
 
 pub returns-clause-quiet : goal.returns-clause-quiet
