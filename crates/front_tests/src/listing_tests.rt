@@ -1,15 +1,12 @@
 use crate::spelling::{Parts, spell};
-use plan_lower::{is_lowered, listing, lower};
+use plan_lower::{listing, lower};
 use query_check::{Checked, check};
 use snel_values::Bytes;
 use sql_reader::read;
 use std::alloc::Global;
 
-// The listing of the job of an accepted query, if it is lowered.
+// The listing of the job of an accepted query.
 fn job_listing(alloc: Global, checked: &Checked) -> Option<Bytes> {
-    if !is_lowered(checked.query()) {
-        return None;
-    }
     match lower(alloc, checked) {
         Ok(job) => {
             let made = listing(alloc, &job).ok();
@@ -46,7 +43,38 @@ fn is_listed(alloc: Global, text: &str, end: &str, whole: bool) -> bool {
 }
 
 // Queries and their listings.
-static LISTINGS: [(&str, &str); 20] = [
+static LISTINGS: [(&str, &str); 23] = [
+    (
+        "SELECT a FROM t ORDER BY b DESC, 1",
+        "m0 = all
+r0 = root m0
+r1 = field m0 r0 \"a\"
+r2 = field m0 r0 \"b\"
+r3 = field m0 r0 \"a\"
+keep m0
+out \"a\" r1
+sort r2
+sort r3
+",
+    ),
+    (
+        "SELECT a, COUNT(*) AS n FROM t WHERE b GROUP BY a HAVING SUM(c) > 1 ORDER BY n",
+        "m0 = all
+r0 = root m0
+r1 = field m0 r0 \"b\"
+m1 = true m0 r1
+r2 = field m1 r0 \"a\"
+r3 = field m1 r0 \"c\"
+keep m1
+group r2
+agg countall
+agg sum r3
+",
+    ),
+    (
+        "SELECT 1 FROM t HAVING TRUE",
+        "m0 = all\nr0 = root m0\nkeep m0\n",
+    ),
     (
         "SELECT a FROM t",
         "m0 = all\nr0 = root m0\nr1 = field m0 r0 \"a\"\nkeep m0\nout \"a\" r1\n",

@@ -1,6 +1,5 @@
 //! The reason for which a text is refused, in the words of README.md. No words say that nothing is refused.
 use crate::words::{Words, numbered, plain};
-use plan_lower::is_lowered;
 use query_check::{CheckFault, Limit, Place, check};
 use sql_reader::{SqlFault, read};
 use std::alloc::Global;
@@ -69,17 +68,5 @@ pub(crate) fn why_refused(alloc: Global, text: &str) -> Words {
             None => plain(""),
         },
         Err(fault) => of_text(fault),
-    }
-}
-
-/// Whether queries of the form of a text's query are built.
-pub(crate) fn is_built(alloc: Global, text: &str) -> bool {
-    match read(alloc, text) {
-        Ok(query) => {
-            let built = is_lowered(&query);
-            drop(query);
-            built
-        }
-        Err(_) => false,
     }
 }

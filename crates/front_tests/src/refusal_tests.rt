@@ -1,4 +1,4 @@
-use crate::reasons::{is_built, why_refused};
+use crate::reasons::why_refused;
 use crate::spelling::{Parts, spell};
 use query_check::{Checked, check};
 use sql_reader::read;
@@ -194,26 +194,6 @@ fn long_texts_are_accepted_or_say_why_not(rt: HostRuntime) {
             is_refused(rt.alloc(), parts, *times, reason),
             "{times} times: {reason}"
         );
-    }
-}
-
-// Accepted queries, and whether queries of their form are built.
-static FORMS: [(&str, bool); 9] = [
-    ("SELECT a + 1 FROM t", true),
-    ("SELECT a = 1 AS x FROM logs OFFSET 0", true),
-    ("SELECT * FROM t WHERE a", true),
-    ("SELECT * FROM t LIMIT 1", true),
-    ("SELECT * FROM t WHERE a OFFSET 1", true),
-    ("SELECT * FROM t ORDER BY a", false),
-    ("SELECT a FROM t GROUP BY a", false),
-    ("SELECT 1 + COUNT(*) FROM t", false),
-    ("SELECT 1 FROM t HAVING TRUE", false),
-];
-
-#[test]
-fn forms_are_built_or_not(rt: HostRuntime) {
-    for (text, built) in &FORMS {
-        assert!(rt; is_built(rt.alloc(), text) == *built, "{text}");
     }
 }
 

@@ -8,7 +8,7 @@ pub mod FormedParts
 pub mod Operations
 pub mod Choices
 pub mod Outputs
-pub mod PlainQueries
+pub mod OutputNames
 pub mod AggregateForms
 pub mod EndRegisters
 pub mod EndJobs

@@ -1,4 +1,3 @@
-pub mod Forms
 pub mod Operands
 pub mod Emitting
 pub mod Listing

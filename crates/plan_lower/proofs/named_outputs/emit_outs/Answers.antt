@@ -1,7 +1,7 @@
 use Rattle.std.proofs.Common.{sym, ◌∙◌, ap, length}
 use Rattle.query_tree.specs.Queries.{outs_view}
 use Rattle.plan_lower.specs.Ends.{names_of}
-use Rattle.plan_lower.proofs.PlainQueries.{names_of_star, length_of_names}
+use Rattle.plan_lower.proofs.OutputNames.{names_of_star, length_of_names}
 use Rattle.plan_lower.proofs.named_outputs.emit_outs.Goals as goal
 
 pub emit_items-requires-clause-names : goal.emit_items-requires-clause-names
