@@ -1,5 +1,5 @@
 -- What gathered groups tell of the rows of all blocks: whether there are more groups than the limit, and the lines of an answer.
-use Rattle.std.proofs.Common.{◌≡◌, ℕ, ◌+◌, ◌<◌, ◌≤◌, Bool, true, false, ◌&&◌, ◌||◌, ltb, List, length, Option, None, Some, refl, ◌∙◌, subst}
+use Rattle.std.proofs.Common.{◌≡◌, ℕ, ◌+◌, ◌<◌, ◌≤◌, Bool, true, false, ◌&&◌, ltb, List, length, Option, None, Some, refl, ◌∙◌, subst}
 use Rattle.std.specs.Prelude.{not, ◌==◌}
 use Rattle.std.specs.Option.{ForSome}
 use Rattle.std.proofs.lemmas.Bool.{lt-ltb, le-ltb}
@@ -11,7 +11,6 @@ use Rattle.scan_meaning.specs.Blocks.{Place, Block}
 use Rattle.scan_meaning.specs.Batches.{is_plain}
 use Rattle.scan_meaning.specs.Limits.{is_over}
 use Rattle.scan_files.specs.Places.{blocks_at, room_of}
-use Rattle.query_run.specs.Queries.{is_built}
 use Rattle.batch_groups.specs.OfQuery.{count_groups, AreAllGroups, MakesGroups}
 
 -- a query that groups isn't plain
@@ -29,14 +28,6 @@ both false b h = absurd (cc)
 none : (a b : Bool) → b ≡ false → (a && b) ≡ false
 none true b h = h
 none false b h = refl
-
--- a query of a form that is answered, and that doesn't group, is plain
-pub ungrouped_plain : (q : Query) → is_grouped q ≡ false → is_built q ≡ true → is_plain q ≡ true
-ungrouped_plain q ungrouped built = on (is_grouped q) (length q.order == 0) ungrouped built
-  where
-    on : (a b : Bool) → a ≡ false → (a || b) ≡ true → (not a && b) ≡ true
-    on false b h k = k
-    on true b h k = absurd (cc)
 
 -- there are more groups than the limit
 pub are_over : (q : Query) → is_grouped q ≡ true → (limit : ℕ) (rows : List Val) → limit < count_groups q rows → is_over q limit rows ≡ true

@@ -6,6 +6,7 @@ mod Surveyed
 mod PlainEnding
 mod GatheredEnding
 mod GroupsEnding
+mod SortedEnding
 mod Asking
 pub mod Built
 mod SomeNamed

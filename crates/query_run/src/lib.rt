@@ -12,6 +12,7 @@ mod plain;
 mod query;
 mod query_fault;
 mod settings;
+mod sorted;
 mod sum;
 mod text_fault;
 

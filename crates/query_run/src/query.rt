@@ -6,7 +6,7 @@ ghost use Rattle.tree_meaning.specs.Tree.{Query as QueryTree};
 ghost use Rattle.program_meaning.specs.Simulation.{Simulates};
 ghost use Rattle.scan_meaning.specs.Causes.{index_costs};
 ghost use Rattle.scan_files.specs.Surveys.{Surveys};
-ghost use Rattle.query_run.specs.Queries.{is_built, Accepts};
+ghost use Rattle.query_run.specs.Queries.{Accepts};
 ghost use Rattle.query_run.specs.Statuses.{status_after, IsAbsent};
 ghost use Rattle.query_run.specs.Headline.{Headline};
 ghost use Rattle.query_run.specs.Ends.{Ends, Reads};
@@ -20,6 +20,7 @@ use crate::groups::run_groups;
 use crate::plain::run_plain;
 use crate::query_fault::QueryFault;
 use crate::settings::Settings;
+use crate::sorted::run_sorted;
 use crate::sum::QuerySum;
 use lane_ssa::Job;
 use query_check::Checked;
@@ -105,7 +106,6 @@ fn run_job<R: Threads + Sync, F: Files, O: Out, G: Gate + Sync>(
     requires some_workers { 0 < settings.now.workers }
     requires few_workers { settings.now.workers ≤ 64 }
     requires simulates { Simulates job.now checked.now }
-    requires built { is_built checked.now ≡ true }
     ensures ran { RunsTo checked.now settings.now.groups names.now (F.told files.old)
         result (F.taken files.old) (F.taken files.new) (O.holds out.old) (O.holds out.new) }
     ensures absent { IsAbsent result → Rose (F.misses files.old) (F.misses files.new) }
@@ -142,7 +142,6 @@ fn run_found<R: Threads + Sync, F: Files, O: Out, G: Gate + Sync>(
     requires some_workers { 0 < settings.now.workers }
     requires few_workers { settings.now.workers ≤ 64 }
     requires simulates { Simulates job.now checked.now }
-    requires built { is_built checked.now ≡ true }
     requires surveyed { ForSome (F.told files.old) (λ told. Surveys checked.now names.now
         (length names.now) told found.now.fields found.now.places.items found.now.skipped) }
     requires named { All (λ p. p.file < length names.now) found.now.places.items }
@@ -165,7 +164,7 @@ fn run_found<R: Threads + Sync, F: Files, O: Out, G: Gate + Sync>(
         run_groups(
             rt, alloc, checked, job, names, settings, found, files, out, gate,
         )
-    } else {
+    } else if checked.query().order.len() == 0 {
         run_plain(
             alloc,
             checked.query(),
@@ -175,6 +174,10 @@ fn run_found<R: Threads + Sync, F: Files, O: Out, G: Gate + Sync>(
             found,
             files,
             out,
+        )
+    } else {
+        run_sorted(
+            rt, alloc, checked, job, names, settings, found, files, out, gate,
         )
     }
 }

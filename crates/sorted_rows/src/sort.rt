@@ -10,6 +10,7 @@ ghost use Rattle.scan_meaning.specs.Batches.{first_bad};
 ghost use Rattle.scan_meaning.specs.Answers.{falling};
 ghost use Rattle.scan_files.specs.Places.{blocks_at, IsPlaced, room_of};
 ghost use Rattle.scan_batches.specs.Scans.{IsReading, NamesBlock};
+ghost use Rattle.scan_batches.specs.Gathers.{StopsGathering};
 ghost use Rattle.sorted_rows.specs.Holding.{IsEmptyTop};
 ghost use Rattle.sorted_rows.specs.Sorted.{AreSorted};
 
@@ -65,6 +66,9 @@ pub fn sort_rows<R: Threads + Sync, G: Gate + Sync, F: Files>(
     ensures bad { IfErr result (λ fault. ForSome (F.told files.old) (λ told. NamesBlock fault
         (λ b. first_bad (blocks_at told names.now fields.now places.now) ≡ Some b))) }
     ensures reading { IfErr result (λ fault. IsReading fault) }
+    ensures stopped { IfErr result (λ fault. ForSome (F.told files.old)
+        (λ told. StopsGathering fault (blocks_at told names.now fields.now places.now)
+        (F.taken files.old) (F.taken files.new))) }
     ensures most { F.taken files.new ≤ F.taken files.old + room_of places.now }
     ensures later { F.taken files.old ≤ F.taken files.new }
     ensures fault { HasCause (F.read_faults files.old) (F.read_faults files.new)

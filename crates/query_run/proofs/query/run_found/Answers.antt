@@ -1,26 +1,19 @@
-use Rattle.std.proofs.Common.{◌≡◌, true, sym, subst, ◌∙◌}
+use Rattle.std.proofs.Common.{sym, subst}
 use Rattle.std.specs.Prelude.{length}
 use Rattle.tree_meaning.specs.Tree.{Query}
 use Rattle.program_meaning.specs.Simulation.{Simulates}
-use Rattle.scan_meaning.specs.Batches.{is_plain}
 use Rattle.scan_files.specs.Surveys.{Surveys}
 use Rattle.query_run.specs.Runs.{RunsTo}
-use Rattle.query_run.proofs.GroupsEnding.{ungrouped_plain}
 use Rattle.query_run.proofs.query.run_found.Goals as goal
 
 pub run_plain-requires-clause-simulates : goal.run_plain-requires-clause-simulates
-run_plain-requires-clause-simulates g c = subst (λ (p : Query). Simulates c.args.job.now p) (sym c.query.ensures.is) c.requires.simulates
-
-pub run_plain-requires-clause-plain : goal.run_plain-requires-clause-plain
-run_plain-requires-clause-plain g c =
-    subst (λ (p : Query). is_plain p ≡ true) (sym c.query.ensures.is)
-    (ungrouped_plain c.args.checked.now (sym c.grouped.ensures ∙ c.if-grouped.false) c.requires.built)
+run_plain-requires-clause-simulates g c = subst (λ (p : Query). Simulates c.args.job.now p) (sym c.query-then-len-eq0.ensures.is) c.requires.simulates
 
 pub run_plain-requires-clause-surveyed : goal.run_plain-requires-clause-surveyed
 run_plain-requires-clause-surveyed g c = λ files is.
-    subst (λ (p : Query). Surveys p c.args.names.now (length c.args.names.now) files c.args.found.now.fields c.args.found.now.places.items c.args.found.now.skipped) (sym c.query.ensures.is) (c.requires.surveyed files is)
+    subst (λ (p : Query). Surveys p c.args.names.now (length c.args.names.now) files c.args.found.now.fields c.args.found.now.places.items c.args.found.now.skipped) (sym c.query-then-len-eq0.ensures.is) (c.requires.surveyed files is)
 
-pub returns-else-grouped-clause-ran : goal.returns-else-grouped-clause-ran
-returns-else-grouped-clause-ran g c = λ start le indexes.
-    subst (λ (p : Query). RunsTo p c.args.settings.now.groups c.args.names.now (g.F.Files.told c.args.files.now) c.run_plain.result start (g.F.Files.taken c.run_plain.new.files) (g.O.Out.holds c.args.out.now) (g.O.Out.holds c.run_plain.new.out)) c.query.ensures.is
+pub returns-then-len-eq0-clause-ran : goal.returns-then-len-eq0-clause-ran
+returns-then-len-eq0-clause-ran g c = λ start le indexes.
+    subst (λ (p : Query). RunsTo p c.args.settings.now.groups c.args.names.now (g.F.Files.told c.args.files.now) c.run_plain.result start (g.F.Files.taken c.run_plain.new.files) (g.O.Out.holds c.args.out.now) (g.O.Out.holds c.run_plain.new.out)) c.query-then-len-eq0.ensures.is
     (c.run_plain.ensures.ran start le indexes)

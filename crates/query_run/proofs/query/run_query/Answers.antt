@@ -4,7 +4,7 @@ use Rattle.query_run.specs.Statuses.{status_after}
 use Rattle.query_run.specs.Faults.{StopsSo}
 use Rattle.query_run.specs.Sums.{SumsUp}
 use Rattle.query_run.specs.declared.sum.QuerySum.{QuerySum}
-use Rattle.query_run.proofs.Asking.{text_ends, text_cause, text_quiet, text_stops, text_reads, headline, accepts_it, simulates_it, only_it, asked_ends, asked_reads, asked_cause}
+use Rattle.query_run.proofs.Asking.{text_ends, text_cause, text_quiet, text_stops, text_reads, headline, simulates_it, only_it, asked_ends, asked_reads, asked_cause}
 use Rattle.query_run.proofs.query.run_query.Goals as goal
 
 pub returns-in-Err-clause-ends : goal.returns-in-Err-clause-ends
@@ -36,10 +36,6 @@ returns-in-Err-job_of-clause-headline g c =
 pub run_job-requires-clause-simulates : goal.run_job-requires-clause-simulates
 run_job-requires-clause-simulates g c = λ κs into.
     simulates_it c.args.sql.now c.in-Ok.checked c.in-Ok.ensures.accepted _ (c.in-Ok-job_of.ensures.compiled c.args.sql.now c.in-Ok.ensures.accepted)
-
-pub run_job-requires-clause-built : goal.run_job-requires-clause-built
-run_job-requires-clause-built g c = λ κs into.
-    (accepts_it c.args.sql.now c.in-Ok.checked c.in-Ok.ensures.accepted _ (c.in-Ok-job_of.ensures.compiled c.args.sql.now c.in-Ok.ensures.accepted)).built
 
 pub returns-clause-ends : goal.returns-clause-ends
 returns-clause-ends g c =
