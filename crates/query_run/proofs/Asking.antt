@@ -10,7 +10,7 @@ use Rattle.scan_meaning.specs.Verdicts.{Verdict, Finds}
 use Rattle.scan_meaning.specs.Answers.{EndsAs}
 use Rattle.scan_meaning.specs.Causes.{StaysWithin}
 use Rattle.scan_meaning.proofs.Ended.{ended_is_answered}
-use Rattle.query_run.specs.Queries.{is_built, Accepts, IsRefused}
+use Rattle.query_run.specs.Queries.{Accepts, IsRefused}
 use Rattle.query_run.specs.TextFaults.{refused_view}
 use Rattle.query_run.specs.Jobs.{Compiles}
 use Rattle.query_run.specs.Statuses.{status_of}
@@ -19,7 +19,7 @@ use Rattle.query_run.specs.Ends.{Ends, Reads}
 use Rattle.query_run.specs.Faults.{SaysOfText, SaysOfQuery, HasItsCause, IsQuiet, StopsSo}
 use Rattle.query_run.specs.declared.query_fault.QueryFault.{QueryFault}
 use Rattle.query_run.specs.declared.query_fault.QueryFault.TheVariants.{Text, Absent, NotAFile, Damaged, Groups, ReadFault, WriteFault, OutOfMemory}
-use Rattle.query_run.proofs.Built.{one_accepted, not_both, same_query}
+use Rattle.query_run.proofs.Accepted.{one_accepted, not_both, same_query}
 use Rattle.check_meaning.specs.Verdict.{fault_of}
 use Rattle.query_run.proofs.Sink.{Keeps-same}
 use Rattle.query_run.proofs.Refusing.{memory_end}
@@ -84,7 +84,7 @@ headline sql limit names told status old new ends = record {
 -- the one query of an accepted text
 module _ (sql : List ℕ) (q : Query) (comes : ComesTo sql (is_query q)) (job : Job) (compiles : Compiles sql job) where
   pub accepts_it : Accepts sql q
-  accepts_it = record { comes = comes; faultless = subst (λ (p : Query). fault_of p ≡ None) same compiles.accepts.faultless; built = subst (λ (p : Query). is_built p ≡ true) same compiles.accepts.built }
+  accepts_it = record { comes = comes; faultless = subst (λ (p : Query). fault_of p ≡ None) same compiles.accepts.faultless }
     where
       same : compiles.q ≡ q
       same = same_query sql compiles.q q compiles.accepts.comes comes

@@ -13,7 +13,7 @@ use Rattle.query_run.specs.Jobs.{Compiles}
 use Rattle.query_run.specs.Statuses.{status_of}
 use Rattle.query_run.specs.Faults.{SaysOfText}
 use Rattle.query_run.specs.Explained.{EndsExplained}
-use Rattle.query_run.proofs.Built.{one_accepted, not_both, compiled_is_accepted}
+use Rattle.query_run.proofs.Accepted.{one_accepted, not_both, compiled_is_accepted}
 use Rattle.query_run.proofs.Sink.{Keeps-same}
 
 neither : {A : Type 0} (n : ℕ) → (n ≡ 0 → ⊥) → (n ≡ 9 → ⊥) → (n ≡ 0) ⊎ (n ≡ 9) → A

@@ -8,7 +8,7 @@ mod GatheredEnding
 mod GroupsEnding
 mod SortedEnding
 mod Asking
-pub mod Built
+pub mod Accepted
 mod SomeNamed
 mod CheckedFiles
 mod OneChecked

@@ -2,7 +2,7 @@
 use Rattle.query_meaning.specs.Faults as text
 use Rattle.check_meaning.specs.Fault as fault
 use Rattle.query_check.specs.Faults.{limit_view, place_view}
-use Rattle.query_run.specs.Queries.{Refused, unread, unchecked, not_built}
+use Rattle.query_run.specs.Queries.{Refused, unread, unchecked}
 use Rattle.query_run.specs.declared.text_fault.TextFault.{TextFault}
 use Rattle.query_run.specs.declared.text_fault.TextFault.TheVariants as of
 
@@ -19,4 +19,3 @@ refused_view (of.NotGrouped p) = unchecked (fault.not_grouped (place_view p))
 refused_view (of.OverGroups p) = unchecked (fault.over_groups (place_view p))
 refused_view (of.SameName k) = unchecked (fault.same_name k)
 refused_view (of.NoSuchOrder i) = unchecked (fault.no_such_order i)
-refused_view of.NotBuilt = not_built

@@ -27,6 +27,4 @@ pub enum TextFault {
     SameName(u32),
     /// The order key of this number is the number of no output.
     NoSuchOrder(u32),
-    /// Queries of this form aren't built yet.
-    NotBuilt,
 }

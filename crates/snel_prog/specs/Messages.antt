@@ -10,7 +10,7 @@ use Rattle.check_meaning.specs.Fault as fault
 use Rattle.check_meaning.specs.Fault.{Fault}
 use Rattle.pack_meaning.specs.declared.LineWhy.{LineWhy}
 use Rattle.pack_meaning.specs.declared.LineWhy.TheVariants as why
-use Rattle.query_run.specs.Queries.{Refused, unread, unchecked, not_built}
+use Rattle.query_run.specs.Queries.{Refused, unread, unchecked}
 
 -- words about a file
 abbrev pub about : List ℕ → List ℕ → List ℕ
@@ -56,7 +56,6 @@ check_words (fault.no_such_order n) = numbered (codes "order key ") n ++ codes "
 abbrev pub refused_words : Refused → List ℕ
 refused_words (unread v) = reading_words v
 refused_words (unchecked f) = check_words f
-refused_words not_built = codes "not built yet"
 
 -- the line of status 3
 abbrev pub query_line : Refused → List ℕ

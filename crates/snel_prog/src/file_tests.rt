@@ -150,7 +150,44 @@ fn a_block_is_as_its_entry_says(rt: HostRuntime) -> Result<(), Fail> {
 }
 
 // Words, and what the call ends with.
-static CALLS: [(&[&str], u8, &str, &str); 26] = [
+static CALLS: [(&[&str], u8, &str, &str); 31] = [
+    // A LIMIT that is full ends the reading before a later batch, and one that isn't goes on to it.
+    (
+        &["query", "SELECT * FROM logs LIMIT 1", "long"],
+        0,
+        "{\"ts\":\"2024-01-01T00:00:00Z\"}\n",
+        "",
+    ),
+    (
+        &["query", "SELECT * FROM logs LIMIT 1 OFFSET 63", "long"],
+        0,
+        "{\"ts\":\"2024-01-01T00:01:03Z\"}\n",
+        "",
+    ),
+    (
+        &["query", "SELECT * FROM logs LIMIT 1 OFFSET 64", "long"],
+        6,
+        "",
+        "snel: long: block 64 is damaged\n",
+    ),
+    // A query that sorts reads all blocks before it writes a line.
+    (
+        &["query", "SELECT * FROM logs ORDER BY ts LIMIT 1", "long"],
+        6,
+        "",
+        "snel: long: block 64 is damaged\n",
+    ),
+    (
+        &[
+            "query",
+            "SELECT * FROM logs ORDER BY ts DESC LIMIT 2",
+            "whole",
+            "T",
+        ],
+        0,
+        "{\"ts\":\"2024-01-01T00:01:03Z\"}\n{\"ts\":\"2024-01-01T00:01:02Z\"}\n",
+        "",
+    ),
     // Blocks that a range of times excludes aren't read.
     (
         &["query", "--stats", FROM, "U"],

@@ -3,7 +3,28 @@ use crate::test_files::{OF_A, OF_A_AND_B, file_of};
 use std::test::Fail;
 
 // Queries over the rows {"a":1,"b":"x"}, {"a":null} and {"b":7}, and their lines.
-static ANSWERS: [(&str, &str); 18] = [
+static ANSWERS: [(&str, &str); 24] = [
+    (
+        "SELECT a FROM logs ORDER BY a DESC, b",
+        "{\"a\":1}\n{\"a\":null}\n{}\n",
+    ),
+    (
+        "SELECT a FROM logs ORDER BY a LIMIT 1 OFFSET 1",
+        "{\"a\":null}\n",
+    ),
+    (
+        "SELECT b AS a FROM logs ORDER BY a",
+        "{}\n{\"a\":7}\n{\"a\":\"x\"}\n",
+    ),
+    (
+        "SELECT a, b FROM logs ORDER BY 2 DESC LIMIT 2",
+        "{\"a\":1,\"b\":\"x\"}\n{\"b\":7}\n",
+    ),
+    ("SELECT * FROM logs ORDER BY b LIMIT 0", ""),
+    (
+        "SELECT a FROM logs WHERE b IS NOT MISSING ORDER BY a IS NULL, b OFFSET 1",
+        "{\"a\":1}\n",
+    ),
     ("SELECT a FROM logs", "{\"a\":1}\n{\"a\":null}\n{}\n"),
     ("SELECT * FROM logs WHERE a IS MISSING", "{\"b\":7}\n"),
     (
@@ -81,10 +102,10 @@ static EXPLAINED: [(&[&str], u8, &str, &str); 8] = [
         "snel: query: not a query\n",
     ),
     (
-        &["explain", "SELECT a FROM logs ORDER BY a"],
-        3,
+        &["explain", "SELECT a FROM logs ORDER BY b"],
+        0,
+        "m0 = all\nr0 = root m0\nr1 = field m0 r0 \"a\"\nr2 = field m0 r0 \"b\"\nkeep m0\nout \"a\" r1\nsort r2\n",
         "",
-        "snel: query: not built yet\n",
     ),
     (&["explain"], 2, "", "snel: words not understood\n"),
     (&["explain", ""], 2, "", "snel: words not understood\n"),

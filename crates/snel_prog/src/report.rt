@@ -204,7 +204,6 @@ fn puts_fault<E: Out>(err: &mut E, fault: TextFault) -> Result<(), Failed>
             puts_numbered(err, "output ", output, " has an earlier name")
         }
         TextFault::NoSuchOrder(key) => puts_numbered(err, "order key ", key, " has no output"),
-        TextFault::NotBuilt => puts(err, "not built yet"),
     }
 }
 

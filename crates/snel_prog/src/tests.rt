@@ -132,7 +132,7 @@ fn each_status_comes(rt: HostRuntime) {
 }
 
 // Texts that are refused, and the line that says why.
-static REFUSED: [(&str, &str); 10] = [
+static REFUSED: [(&str, &str); 9] = [
     ("SELECT 1.5 FROM logs", "snel: query: bad token at byte 8\n"),
     ("SELECT a--b FROM t", "snel: query: bad token at byte 8\n"),
     (
@@ -160,7 +160,6 @@ static REFUSED: [(&str, &str); 10] = [
         "SELECT CAST(COUNT(*) AS BOOLEAN) FROM t",
         "snel: query: output 1 is not allowed over groups\n",
     ),
-    ("SELECT * FROM t ORDER BY a", "snel: query: not built yet\n"),
 ];
 
 #[test]

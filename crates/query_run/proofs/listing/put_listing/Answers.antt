@@ -1,6 +1,6 @@
 use Rattle.std.proofs.Common.{◌∙◌}
 use Rattle.query_run.specs.declared.query_fault.QueryFault.TheVariants.{OutOfMemory}
-use Rattle.query_run.proofs.Built.{compiled_is_accepted}
+use Rattle.query_run.proofs.Accepted.{compiled_is_accepted}
 use Rattle.query_run.proofs.Explaining.{not_compiled, whole_listing, cut_listing}
 use Rattle.query_run.proofs.listing.put_listing.Goals as goal
 
