@@ -171,7 +171,7 @@ fn eval_in(
 ) -> Result<Value, OutOfMemory>
     ensures { IfOk result (λ v. view v ≡
         eval (tree.member (filled_by known.now of.now)
-            (exs_filled_by known.now (tree.exs list.now)))
+        (exs_filled_by known.now (tree.exs list.now)))
         (pair_of row.now item.now)) }
 {
     let value = eval_known(alloc, of, known, row, item)?;
