@@ -11,6 +11,9 @@ use lane_base::LaneMask;
 use std::alloc::Global;
 use std::hash::DefaultHasher;
 
+/// So many groups are looked through one by one, which takes less than a hash does.
+const FEW_GROUPS: usize = 8;
+
 /// Where groups are found by their keys. It covers the first groups of a list: beside each its whole hash, and the row of
 /// places in which its number is found by it. Groups that it doesn't cover, since memory was refused, are looked through
 /// one by one.
@@ -46,6 +49,9 @@ impl Index {
             (λ i. (i < length all.now)
             × ((e : Entry) → (slice_index_or (map entry_of all.now) i e).0 ≡ K.values keys.now)) }
     {
+        if all.len() <= FEW_GROUPS {
+            return find_from(all, 0, keys);
+        }
         match self.find_covered(all, keys) {
             Some(at) => Some(at),
             None => find_from(all, self.hashes.len(), keys),

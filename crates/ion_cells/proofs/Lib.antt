@@ -6,6 +6,8 @@ pub mod Moments
 pub mod PairSteps
 pub mod Parts
 pub mod Payloads
+pub mod ShortNumbers
+pub mod ShortTimes
 pub mod Signed
 pub mod Stands
 pub mod Symbols

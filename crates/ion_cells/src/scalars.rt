@@ -1,7 +1,7 @@
 ghost use Rattle.std.specs.Prelude.{◌≡◌, ◌+◌, ◌-◌, ◌<◌, ◌≤◌, ◌^◌, length, drop, take, is_some};
 ghost use Rattle.std.specs.Str.{is_utf8};
 ghost use Rattle.block_meaning.specs.Tables.{text_of};
-ghost use Rattle.block_meaning.specs.CellReading.{one_byte, scalar, blank_table};
+ghost use Rattle.block_meaning.specs.CellReading.{one_byte, scalar, whole, blank_table};
 
 use crate::numbers::magnitude;
 use crate::times::micros_of;
@@ -39,6 +39,14 @@ pub(crate) fn is_symbol(number: u64, last: u32) -> bool
     10 <= number && number <= u64::from(last)
 }
 
+/// Whether the payload is a whole number below 2^63, of at most eight bytes. Fewer bytes always are one.
+#[inline(always)]
+fn is_whole(payload: &[u8]) -> bool
+    ensures { result ≡ is_some (whole payload.now) }
+{
+    payload.len() < 8 || (payload.len() == 8 && magnitude(payload) < 1 << 63)
+}
+
 /// Whether the payload is one of its type, which holds no cells.
 #[inline(always)]
 #[tactic(auto, unfolding(block_meaning::specs::CellReading::scalar))]
@@ -46,7 +54,7 @@ pub(crate) fn is_scalar(kind: u8, payload: &[u8], last: u32) -> bool
     ensures { result ≡ is_some (scalar (blank_table last) kind payload.now) }
 {
     match kind {
-        WHOLE => payload.len() <= 8 && magnitude(payload) < 1 << 63,
+        WHOLE => is_whole(payload),
         NEGATIVE => payload.len() <= 8 && matches!(magnitude(payload), 1..=0x8000_0000_0000_0000),
         TIMESTAMP => micros_of(payload).is_some(),
         SYMBOL => payload.len() <= 4 && is_symbol(magnitude(payload), last),

@@ -107,8 +107,43 @@ fn moment_of(
 
 /// The microseconds from 1970-01-01T00:00:00Z on of the time that the payload of a timestamp denotes.
 #[inline(never)]
-#[tactic(auto, unfolding(block_meaning::specs::Timestamps::timestamp))]
 pub(crate) fn micros_of(payload: &[u8]) -> Option<i64>
+    ensures { result ≡ spec.timestamp payload.now }
+{
+    if payload.len() == 8 && payload[0] == 0x80 {
+        let century = payload[1];
+        let year = payload[2];
+        let month = payload[3];
+        let day = payload[4];
+        let hour = payload[5];
+        let minute = payload[6];
+        let second = payload[7];
+        if century < 128
+            && year >= 128
+            && month >= 128
+            && day >= 128
+            && hour >= 128
+            && minute >= 128
+            && second >= 128
+        {
+            return moment_of(
+                u32::from(century) * 128 + u32::from(year - 128),
+                u32::from(month - 128),
+                u32::from(day - 128),
+                u32::from(hour - 128),
+                u32::from(minute - 128),
+                u32::from(second - 128),
+                0,
+            );
+        }
+    }
+    micros_by_parts(payload)
+}
+
+/// The same, field by field.
+#[inline(never)]
+#[tactic(auto, unfolding(block_meaning::specs::Timestamps::timestamp))]
+fn micros_by_parts(payload: &[u8]) -> Option<i64>
     ensures { result ≡ spec.timestamp payload.now }
 {
     let (_, minutes, rest) = next_int(payload)?;

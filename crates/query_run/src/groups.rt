@@ -24,12 +24,13 @@ use scan_files::Survey;
 use snel_device::{Failed, Files, Gate, Out};
 use snel_values::Words;
 use std::alloc::Global;
-use std::hash::DefaultHasher;
+use std::hash::{BuildHasher, DefaultHasher, RandomState};
+use std::random::RandomSource;
 use std::thread::Threads;
 
 /// Answers a query that groups, of whose files the indexes were read: all blocks are read, then the rows of the groups are
 /// made, sorted and cut, and then their lines are put. Nothing is put where there are more groups than the limit.
-pub(crate) fn run_groups<R: Threads + Sync, F: Files, O: Out, G: Gate + Sync>(
+pub(crate) fn run_groups<R: Threads + Sync + RandomSource, F: Files, O: Out, G: Gate + Sync>(
     rt: &R,
     alloc: Global,
     checked: &Checked,
@@ -67,7 +68,7 @@ pub(crate) fn run_groups<R: Threads + Sync, F: Files, O: Out, G: Gate + Sync>(
     let Ok(heads) = LineHeads::of(alloc, job) else {
         return Err(QueryFault::OutOfMemory);
     };
-    let Ok(mut sink) = GroupSink::new(alloc, job, settings.groups, DefaultHasher::new()) else {
+    let Ok(mut sink) = GroupSink::new(alloc, job, settings.groups, seed_of(rt)) else {
         return Err(QueryFault::OutOfMemory);
     };
     let mut ran = Tally::none();
@@ -106,5 +107,14 @@ pub(crate) fn run_groups<R: Threads + Sync, F: Files, O: Out, G: Gate + Sync>(
             ran,
         }),
         Err(Failed) => Err(QueryFault::WriteFault),
+    }
+}
+
+// The hasher with which the hashes of keys begin. Keys come from outside and may be chosen to collide, so it's another one in
+// each run, where the source of random bytes answers. No answer depends on it.
+fn seed_of<R: RandomSource>(rt: &R) -> DefaultHasher {
+    match RandomState::new(rt) {
+        Ok(state) => state.build_hasher(),
+        Err(_) => DefaultHasher::new(),
     }
 }

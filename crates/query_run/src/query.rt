@@ -28,13 +28,14 @@ use scan_files::{FilesFault, Survey, find_places};
 use snel_device::{Files, Gate, Out};
 use snel_values::Words;
 use std::alloc::Global;
+use std::random::RandomSource;
 use std::thread::Threads;
 
 /// Answers a query over 1 to 64 files: reads the index of each, then the blocks that the WHERE doesn't exclude by the times
 /// that the index tells, 64 at a time, and puts one line for each row that passes, as OFFSET and LIMIT let them through. The
 /// lines of 64 blocks are put before the next are read, and a LIMIT that is full ends the reading. Blocks are scanned by so many
 /// workers as the settings say, from 1 to 64, each of which passes the gate with a block's number in its batch.
-pub fn run_query<R: Threads + Sync, F: Files, O: Out, G: Gate + Sync>(
+pub fn run_query<R: Threads + Sync + RandomSource, F: Files, O: Out, G: Gate + Sync>(
     rt: &R,
     alloc: Global,
     sql: &str,
@@ -90,7 +91,7 @@ pub fn run_query<R: Threads + Sync, F: Files, O: Out, G: Gate + Sync>(
 }
 
 // Answers a query that the job simulates.
-fn run_job<R: Threads + Sync, F: Files, O: Out, G: Gate + Sync>(
+fn run_job<R: Threads + Sync + RandomSource, F: Files, O: Out, G: Gate + Sync>(
     rt: &R,
     alloc: Global,
     checked: &Checked,
@@ -126,7 +127,7 @@ fn run_job<R: Threads + Sync, F: Files, O: Out, G: Gate + Sync>(
 }
 
 // Answers a query of whose files the indexes were read.
-fn run_found<R: Threads + Sync, F: Files, O: Out, G: Gate + Sync>(
+fn run_found<R: Threads + Sync + RandomSource, F: Files, O: Out, G: Gate + Sync>(
     rt: &R,
     alloc: Global,
     checked: &Checked,

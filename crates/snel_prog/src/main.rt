@@ -1,35 +1,14 @@
-//! snel answers SQL over block files of log records with JSON lines and a status. Its call is [`snel`]: over the words of
-//! the command line, files, an input and two sinks, it does what the words ask and answers the status.
+//! snel answers SQL over block files of log records with JSON lines and a status. [`main`] hands the words of the command
+//! line and the process's files, input and outputs to [`snel`], which does what the words ask, and ends with its status.
 #![tactic(auto)]
 
-#[cfg(test)]
-mod file_tests;
-#[cfg(test)]
-mod grid_tests;
-#[cfg(test)]
-mod group_tests;
-mod outcome;
-#[cfg(test)]
-mod pack_tests;
-#[cfg(test)]
-mod query_tests;
-mod report;
-mod run;
-#[cfg(test)]
-mod test_calls;
-#[cfg(test)]
-mod test_files;
-#[cfg(test)]
-mod tests;
-
-use outcome::Refusal;
 use query_run::QueryFault;
-use report::{Names, report};
-use run::snel;
+use snel_command::{Names, Refusal, report, snel};
 use snel_device::{HostFiles, HostInput, HostOut, OpenGate};
 use snel_values::Words;
 use std::io::{BufWriter, ErrorKind, IsTerminal, Stderr, Stdin, Write};
 use std::process::ExitCode;
+use std::random::RandomSource;
 use std::thread::Threads;
 use std::{env, rt};
 
@@ -57,7 +36,7 @@ fn main(rt: HostRuntime) -> ExitCode {
 
 // Does what the words ask, writes what it puts to `stdout`, and answers the status. What the writer holds back is handed on
 // before; where that fails, a call that was refused nothing ends as one whose put failed.
-fn answer<R: Threads + Sync + rt::Files + AllocGlobal, W: Write + Drop>(
+fn answer<R: Threads + Sync + RandomSource + rt::Files + AllocGlobal, W: Write + Drop>(
     rt: &R,
     words: &Words,
     mut stdin: HostInput<Stdin>,

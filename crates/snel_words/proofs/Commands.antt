@@ -3,7 +3,7 @@ use Rattle.std.proofs.Common.{◌≡◌, ℕ, Bool, true, false, List, [], ◌�
 use Rattle.std.specs.Prelude.{codes, ◌&&◌, if◌then◌else◌}
 use Rattle.std.specs.Str.{bytes_eq}
 use Rattle.snel_words.specs.declared.ask.Settings.{Settings}
-use Rattle.snel_words.specs.Words.{Ask, nothing, query, check, is_operand, are_files, workers, groups, setting, flag, query_of, check_of, explain_of, after_groups, after_workers, asked_query, asked_pack, asked}
+use Rattle.snel_words.specs.Words.{Ask, nothing, query, check, is_operand, are_files, workers, groups, setting, flag, query_of, check_of, explain_of, after_groups, after_workers, asked_query, asked_pack, make_of, asked}
 
 -- names that were found are all of the words
 found : (b : Bool) (ws names : List (List ℕ)) → Some names ≡ (if b then Some ws else None) → (b ≡ true) × (names ≡ ws)
@@ -66,42 +66,55 @@ all_settings ws rest more last n m b e f g =
     ap (λ (p : Bool × List (List ℕ)). query_of (record { workers = n; groups = m; stats = p.0 }) p.1) g ∙ ap (after_groups n) f ∙ ap after_workers e
 
 -- the command that its name calls
-abbrev named : Bool → Bool → Bool → Bool → List (List ℕ) → Ask
-named q c x p rest = if q then asked_query rest else (if c then check_of rest else (if x then explain_of rest else (if p then asked_pack rest else nothing)))
+abbrev named : Bool → Bool → Bool → Bool → Bool → List (List ℕ) → Ask
+named q c x p m rest = if q then asked_query rest else (if c then check_of rest else (if x then explain_of rest else (if p then asked_pack rest else (if m then make_of rest else nothing))))
 
 module _ (words rest : List (List ℕ)) (command : List ℕ) (first : words ≡ command ∷ rest) where
   abbrev is : List ℕ → Bool
   is name = bytes_eq command name
 
-  named_is : asked words ≡ named (is (codes "query")) (is (codes "check")) (is (codes "explain")) (is (codes "pack")) rest
+  abbrev from_query : Bool → Ask
+  from_query b = named b (is (codes "check")) (is (codes "explain")) (is (codes "pack")) (is (codes "make")) rest
+
+  abbrev from_check : Bool → Ask
+  from_check b = named false b (is (codes "explain")) (is (codes "pack")) (is (codes "make")) rest
+
+  abbrev from_explain : Bool → Ask
+  from_explain b = named false false b (is (codes "pack")) (is (codes "make")) rest
+
+  abbrev from_pack : Bool → Ask
+  from_pack b = named false false false b (is (codes "make")) rest
+
+  named_is : asked words ≡ from_query (is (codes "query"))
   unfolding asked
   named_is = ap asked first
 
   pub of_query : is (codes "query") ≡ true → asked_query rest ≡ asked words
-  of_query q = sym (named_is ∙ ap (λ (b : Bool). named b (is (codes "check")) (is (codes "explain")) (is (codes "pack")) rest) q)
+  of_query q = sym (named_is ∙ ap from_query q)
+
+  behind_query : is (codes "query") ≡ false → asked words ≡ from_check (is (codes "check"))
+  behind_query q = named_is ∙ ap from_query q
 
   pub of_check : is (codes "query") ≡ false → is (codes "check") ≡ true → check_of rest ≡ asked words
-  of_check q c =
-      sym (named_is ∙ ap (λ (b : Bool). named b (is (codes "check")) (is (codes "explain")) (is (codes "pack")) rest) q
-      ∙ ap (λ (b : Bool). named false b (is (codes "explain")) (is (codes "pack")) rest) c)
+  of_check q c = sym (behind_query q ∙ ap from_check c)
 
-  behind_check : is (codes "query") ≡ false → is (codes "check") ≡ false → asked words ≡ named false false (is (codes "explain")) (is (codes "pack")) rest
-  behind_check q c =
-      named_is ∙ ap (λ (b : Bool). named b (is (codes "check")) (is (codes "explain")) (is (codes "pack")) rest) q
-      ∙ ap (λ (b : Bool). named false b (is (codes "explain")) (is (codes "pack")) rest) c
+  behind_check : is (codes "query") ≡ false → is (codes "check") ≡ false → asked words ≡ from_explain (is (codes "explain"))
+  behind_check q c = behind_query q ∙ ap from_check c
 
   pub of_explain : is (codes "query") ≡ false → is (codes "check") ≡ false → is (codes "explain") ≡ true → explain_of rest ≡ asked words
-  of_explain q c x = sym (behind_check q c ∙ ap (λ (b : Bool). named false false b (is (codes "pack")) rest) x)
+  of_explain q c x = sym (behind_check q c ∙ ap from_explain x)
+
+  behind_explain : is (codes "query") ≡ false → is (codes "check") ≡ false → is (codes "explain") ≡ false → asked words ≡ from_pack (is (codes "pack"))
+  behind_explain q c x = behind_check q c ∙ ap from_explain x
 
   pub of_pack : is (codes "query") ≡ false → is (codes "check") ≡ false → is (codes "explain") ≡ false → is (codes "pack") ≡ true → asked_pack rest ≡ asked words
-  of_pack q c x p =
-      sym (behind_check q c ∙ ap (λ (b : Bool). named false false b (is (codes "pack")) rest) x
-      ∙ ap (λ (b : Bool). named false false false b rest) p)
+  of_pack q c x p = sym (behind_explain q c x ∙ ap from_pack p)
 
-  pub of_other : is (codes "query") ≡ false → is (codes "check") ≡ false → is (codes "explain") ≡ false → is (codes "pack") ≡ false → nothing ≡ asked words
-  of_other q c x p =
-      sym (behind_check q c ∙ ap (λ (b : Bool). named false false b (is (codes "pack")) rest) x
-      ∙ ap (λ (b : Bool). named false false false b rest) p)
+  pub of_make : is (codes "query") ≡ false → is (codes "check") ≡ false → is (codes "explain") ≡ false → is (codes "pack") ≡ false → is (codes "make") ≡ true → make_of rest ≡ asked words
+  of_make q c x p m = sym (behind_explain q c x ∙ ap from_pack p ∙ ap (λ (b : Bool). named false false false false b rest) m)
+
+  pub of_other : is (codes "query") ≡ false → is (codes "check") ≡ false → is (codes "explain") ≡ false → is (codes "pack") ≡ false → is (codes "make") ≡ false → nothing ≡ asked words
+  of_other q c x p m = sym (behind_explain q c x ∙ ap from_pack p ∙ ap (λ (b : Bool). named false false false false b rest) m)
 
 -- no word at all
 pub no_words : (words : List (List ℕ)) → words ≡ [] → nothing ≡ asked words

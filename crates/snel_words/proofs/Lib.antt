@@ -4,3 +4,4 @@ pub mod Options
 pub mod Commands
 pub mod NamedFiles
 pub mod PackWords
+pub mod MakeWords

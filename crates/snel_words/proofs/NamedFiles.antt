@@ -9,7 +9,7 @@ use Rattle.std.specs.Option.{option_map}
 use Rattle.std.proofs.lemmas.Bool.{leb-true}
 use Rattle.snel_words.specs.declared.ask.Settings.{Settings}
 use Rattle.snel_words.specs.declared.fronts.Limits.{Limits}
-use Rattle.snel_words.specs.Words.{Ask, Packing, nothing, query, check, pack, explain, is_operand, is_field, number_in, are_files, groups, workers, block_weights, setting, flag, time_field, query_of, check_of, pack_of, explain_of, after_groups, after_workers, after_block, after_time, asked_query, asked_pack, asked}
+use Rattle.snel_words.specs.Words.{Ask, Packing, nothing, query, check, pack, explain, is_operand, is_field, number_in, are_files, groups, workers, block_weights, setting, flag, time_field, query_of, check_of, pack_of, explain_of, after_groups, after_workers, after_block, after_time, asked_query, asked_pack, make, starts, row_counts, make_with, make_of, asked}
 use Rattle.snel_words.specs.NamedFiles.{AreFew, AreSettings, IsWithinLimits, HasNames}
 use Rattle.snel_words.proofs.Numbers.{first_of, second_of}
 
@@ -145,7 +145,37 @@ of_pack : (ws : List (List ℕ)) → HasNames (asked_pack ws)
 unfolding asked_pack
 of_pack ws = of_time (time_field ws) (time_is_named ws)
 
--- what the words ask names so many, and packs within its limits
+-- the rows of a log
+chosen_make : (start rows : ℕ) (name : List ℕ) (b : Bool) → rows ≤ 1000000 → HasNames (if b then make start rows name else nothing)
+chosen_make start rows name true h = h
+chosen_make start rows name false h = tt
+
+number_low : (limits : Limits) (n : ℕ) (a b c : Bool) → (c ≡ true → n ≤ limits.most) → IfSome (if a && b && c then Some n else None) (λ k. k ≤ limits.most)
+number_low limits n true true true h = h refl
+number_low limits n true true false h = tt
+number_low limits n true false c h = tt
+number_low limits n false b c h = tt
+
+number_is_low : (limits : Limits) (word : List ℕ) → IfSome (number_in limits word) (λ k. k ≤ limits.most)
+unfolding number_in
+number_is_low limits word =
+    number_low limits (digits_value 10 word) (bytes_eq word (decimal (digits_value 10 word))) (nat_le limits.least (digits_value 10 word)) (nat_le (digits_value 10 word) limits.most)
+    (leb-true (digits_value 10 word) limits.most)
+
+of_log : (a b : Option ℕ) (name : List ℕ) → IfSome b (λ k. k ≤ 1000000) → HasNames (make_with a b name)
+of_log None b name h = tt
+of_log (Some start) None name h = tt
+of_log (Some start) (Some rows) name h = chosen_make start rows name (is_operand name) h
+
+of_make : (ws : List (List ℕ)) → HasNames (make_of ws)
+unfolding make_of
+of_make [] = tt
+of_make (a ∷ []) = tt
+of_make (a ∷ b ∷ []) = tt
+of_make (a ∷ b ∷ c ∷ []) = of_log (number_in starts a) (number_in row_counts b) c (number_is_low row_counts b)
+of_make (a ∷ b ∷ c ∷ d ∷ ws) = tt
+
+-- what the words ask names so many, and packs and makes rows within its limits
 pub asked_has_names : (words : List (List ℕ)) → HasNames (asked words)
 unfolding asked
 asked_has_names [] = tt
@@ -153,4 +183,5 @@ asked_has_names (command ∷ words) =
     chosen (asked_query words) _ (bytes_eq command (codes "query")) (of_settings words)
     (chosen (check_of words) _ (bytes_eq command (codes "check")) (of_check words)
     (chosen (explain_of words) _ (bytes_eq command (codes "explain")) (of_explain words)
-    (chosen (asked_pack words) nothing (bytes_eq command (codes "pack")) (of_pack words) tt)))
+    (chosen (asked_pack words) _ (bytes_eq command (codes "pack")) (of_pack words)
+    (chosen (make_of words) nothing (bytes_eq command (codes "make")) (of_make words) tt))))

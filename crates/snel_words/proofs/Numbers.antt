@@ -44,10 +44,10 @@ value_of : (n : ℕ) (word : List ℕ) → n < 2 ^ 64 → word ≡ decimal n →
 value_of n word small e = ap (digits_value 10) e ∙ (decimal_is_IsNumeral n small).1
 
 -- a number within the limits is read as that number
-pub number_some : (limits : Limits) (n : ℕ) (word : List ℕ) → n < 2 ^ 32 → word ≡ decimal n → limits.least ≤ n → n ≤ limits.most → Some n ≡ number_in limits word
+pub number_some : (limits : Limits) (n : ℕ) (word : List ℕ) → n < 2 ^ 64 → word ≡ decimal n → limits.least ≤ n → n ≤ limits.most → Some n ≡ number_in limits word
 unfolding number_in
 number_some limits n word small e low high =
-    let v : digits_value 10 word ≡ n = value_of n word (omega arith) e in
+    let v : digits_value 10 word ≡ n = value_of n word small e in
     let a : bytes_eq word (decimal (digits_value 10 word)) ≡ true = (bytes_eq-Decides word (decimal (digits_value 10 word))).1 (e ∙ ap decimal (sym v)) in
     let b : nat_le limits.least (digits_value 10 word) ≡ true = le-leb limits.least (digits_value 10 word) (subst (λ (k : ℕ). limits.least ≤ k) (sym v) low) in
     let c : nat_le (digits_value 10 word) limits.most ≡ true = le-leb (digits_value 10 word) limits.most (subst (λ (k : ℕ). k ≤ limits.most) (sym v) high) in
@@ -70,17 +70,17 @@ number_none limits word none = go (is_number_in limits word) refl
         (leb-true limits.least (digits_value 10 word) b) (leb-true (digits_value 10 word) limits.most c))
 
 -- a word that doesn't parse writes no number
-pub unread_none : {E : Type 0} (limits : Limits) (word : List ℕ) (r : Result ℕ E) → limits.most < 2 ^ 32 → ParsesUnsigned 32 10 word r → ((n : ℕ) → r ≡ Ok n → ⊥) → None ≡ number_in limits word
-unread_none limits word r most reads bad =
-    number_none limits word (λ n e low high. bad n (parse-decimal 32 n word r (omega arith) (omega arith) e reads))
+pub unread_none : {E : Type 0} (w : ℕ) (limits : Limits) (word : List ℕ) (r : Result ℕ E) → limits.most < 2 ^ 64 → ((n : ℕ) → n ≤ limits.most → n < 2 ^ w) → ParsesUnsigned w 10 word r → ((n : ℕ) → r ≡ Ok n → ⊥) → None ≡ number_in limits word
+unread_none w limits word r narrow most reads bad =
+    number_none limits word (λ n e low high. bad n (parse-decimal w n word r (most n high) (omega arith) e reads))
 
 same_ok : {E : Type 0} (a b : ℕ) (r : Result ℕ E) → r ≡ Ok a → r ≡ Ok b → a ≡ b
 same_ok a b r e f = cc
 
 -- a word that parses as a number, but isn't its decimal form, or one that is outside the limits
-pub other_none : {E : Type 0} (limits : Limits) (word : List ℕ) (m : ℕ) (r : Result ℕ E) → limits.most < 2 ^ 32 → ParsesUnsigned 32 10 word r → r ≡ Ok m → (decimal m ≡ word → limits.least ≤ m → m ≤ limits.most → ⊥) → None ≡ number_in limits word
-other_none limits word m r most reads is bad =
+pub other_none : {E : Type 0} (w : ℕ) (limits : Limits) (word : List ℕ) (m : ℕ) (r : Result ℕ E) → limits.most < 2 ^ 64 → ((n : ℕ) → n ≤ limits.most → n < 2 ^ w) → ParsesUnsigned w 10 word r → r ≡ Ok m → (decimal m ≡ word → limits.least ≤ m → m ≤ limits.most → ⊥) → None ≡ number_in limits word
+other_none w limits word m r narrow most reads is bad =
     number_none limits word (λ n e low high.
-    let k : r ≡ Ok n = parse-decimal 32 n word r (omega arith) (omega arith) e reads in
+    let k : r ≡ Ok n = parse-decimal w n word r (most n high) (omega arith) e reads in
     let same : m ≡ n = same_ok m n r is k in
     bad (ap decimal same ∙ sym e) (omega arith) (omega arith))

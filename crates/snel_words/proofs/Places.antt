@@ -64,3 +64,14 @@ module _ {A : Type 0} where
   pub other_count : (n : ℕ) (xs : List A) → n ≡ length xs → (n ≡ 2 → ⊥) → length (drop 1 xs) ≡ 1 → ⊥
   other_count n [] e never k = absurd (omega arith)
   other_count n (x ∷ xs) e never k = never (e ∙ ap suc k)
+
+  -- where nothing stands, the list has ended
+  pub ended : (xs : List A) (i : ℕ) → slice_get xs i ≡ None → length xs ≤ i
+  ended [] i h = omega arith
+  ended (x ∷ xs) zero h = absurd (cc)
+  ended (x ∷ xs) (suc i) h = let k = ended xs i h in omega arith
+
+  -- three items behind the first are four
+  pub four_items : (xs : List A) → length (drop 1 xs) ≡ 3 → length xs ≡ 4
+  four_items [] e = absurd (cc)
+  four_items (x ∷ xs) e = ap suc e

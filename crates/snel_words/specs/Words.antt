@@ -21,6 +21,7 @@ pub data Ask : Type 0 where
   check : List (List ℕ) → Ask
   pack : Packing → List ℕ → Ask
   explain : List ℕ → Ask
+  make : ℕ → ℕ → List ℕ → Ask
 
 -- a query's text or a file's name isn't empty and doesn't begin with `--`
 abbrev pub is_operand : List ℕ → Bool
@@ -118,11 +119,29 @@ after_time (Some found) = after_block found.0 (setting (codes "--block") block_w
 unfoldable pub asked_pack : List (List ℕ) → Ask
 asked_pack words = after_time (time_field words)
 
+-- the number of 64 bits that a log starts from, and the count of its rows
+abbrev pub starts : Limits
+starts = record { least = 0; most = 18_446_744_073_709_551_615; usual = 0 }
+
+abbrev pub row_counts : Limits
+row_counts = record { least = 0; most = 1_000_000; usual = 0 }
+
+abbrev pub make_with : Option ℕ → Option ℕ → List ℕ → Ask
+make_with None rows name = nothing
+make_with (Some start) None name = nothing
+make_with (Some start) (Some rows) name = if is_operand name then make start rows name else nothing
+
+-- `START ROWS OUT`
+unfoldable pub make_of : List (List ℕ) → Ask
+make_of (start ∷ rows ∷ name ∷ []) = make_with (number_in starts start) (number_in row_counts rows) name
+make_of words = nothing
+
 -- a command's name and its words
 unfoldable pub asked : List (List ℕ) → Ask
 asked (command ∷ words) =
     if bytes_eq command (codes "query") then asked_query words else
     if bytes_eq command (codes "check") then check_of words else
     if bytes_eq command (codes "explain") then explain_of words else
-    if bytes_eq command (codes "pack") then asked_pack words else nothing
+    if bytes_eq command (codes "pack") then asked_pack words else
+    if bytes_eq command (codes "make") then make_of words else nothing
 asked [] = nothing

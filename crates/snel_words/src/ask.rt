@@ -53,4 +53,13 @@ pub enum Ask<'w> {
         /// The query's text.
         sql: &'w str,
     },
+    /// Making the file of a log, and a query over it.
+    Make {
+        /// The number that the log starts from.
+        start: u64,
+        /// How many rows it has, 0 to 1,000,000.
+        rows: u32,
+        /// The new file's name.
+        name: &'w str,
+    },
 }

@@ -1,7 +1,7 @@
 // What stands at a place of a list of words.
 ghost use Rattle.std.specs.Prelude.{◌≡◌, ◌≤◌, ◌+◌, drop, IfSome};
 ghost use Rattle.std.specs.Option.{option_map};
-ghost use Rattle.snel_words.specs.Words.{is_operand, is_field, number_in, setting, flag, time_field};
+ghost use Rattle.snel_words.specs.Words.{is_operand, is_field, number_in, starts, setting, flag, time_field};
 
 use itoa::Buffer;
 use snel_values::Words;
@@ -28,7 +28,7 @@ pub fn is_operand(word: &str) -> bool
 }
 
 // The number that a word writes, within its limits.
-fn number_in(limits: Limits, word: &str) -> Option<u32>
+pub fn number_in(limits: Limits, word: &str) -> Option<u32>
     ensures { result ≡ number_in limits word.now }
 {
     let _most = limits.most;
@@ -46,6 +46,21 @@ fn number_in(limits: Limits, word: &str) -> Option<u32>
         return None;
     }
     Some(number)
+}
+
+// The number of 64 bits that a word writes.
+pub fn start_in(word: &str) -> Option<u64>
+    ensures { result ≡ number_in starts word.now }
+{
+    let Ok(number) = word.parse::<u64>() else {
+        return None;
+    };
+    let mut digits = Buffer::new();
+    if digits.format(number) == word {
+        Some(number)
+    } else {
+        None
+    }
 }
 
 // The number behind an option's name, where the name stands at this place, and the place after it.

@@ -1,10 +1,10 @@
 // From a list of words to what it asks.
 ghost use Rattle.std.specs.Prelude.{◌≡◌, ◌≤◌, drop, IfOk};
-ghost use Rattle.snel_words.specs.Words.{asked, asked_query, query_of, check_of, asked_pack, pack_of, explain_of};
+ghost use Rattle.snel_words.specs.Words.{asked, asked_query, query_of, check_of, asked_pack, pack_of, explain_of, number_in, starts, row_counts, make_with, make_of};
 ghost use Rattle.snel_words.specs.Asked.{ask_view, packing_view};
 
 use crate::ask::{Ask, Packing, Settings};
-use crate::fronts::{Limits, flag, is_operand, setting, time_field};
+use crate::fronts::{Limits, flag, is_operand, number_in, setting, start_in, time_field};
 use crate::names::names_from;
 use snel_values::{OutOfMemory, Words};
 use std::alloc::Global;
@@ -27,6 +27,12 @@ const BLOCK_WEIGHTS: Limits = Limits {
     usual: 1_000_000,
 };
 
+const ROW_COUNTS: Limits = Limits {
+    least: 0,
+    most: 1_000_000,
+    usual: 0,
+};
+
 /// What the words after the program's name ask.
 ///
 /// An error says that no memory was left for the names.
@@ -47,6 +53,9 @@ pub fn read_words<'w>(alloc: Global, words: &'w Words) -> Result<Ask<'w>, OutOfM
     }
     if command == "pack" {
         return Ok(read_pack(words));
+    }
+    if command == "make" {
+        return Ok(read_make(words));
     }
     Ok(Ask::Nothing)
 }
@@ -157,6 +166,43 @@ fn read_explain<'w>(words: &'w Words) -> Ask<'w>
     };
     if is_operand(sql) {
         Ask::Explain { sql }
+    } else {
+        Ask::Nothing
+    }
+}
+
+// What the words behind `make` ask.
+fn read_make<'w>(words: &'w Words) -> Ask<'w>
+    ensures { ask_view result ≡ make_of (drop 1 words.now) }
+{
+    if words.len() != 4 {
+        return Ask::Nothing;
+    }
+    let Some(start) = words.get(1) else {
+        return Ask::Nothing;
+    };
+    let Some(rows) = words.get(2) else {
+        return Ask::Nothing;
+    };
+    let Some(name) = words.get(3) else {
+        return Ask::Nothing;
+    };
+    read_log(start, rows, name)
+}
+
+// Making the log of these words.
+fn read_log<'w>(start: &str, rows: &str, name: &'w str) -> Ask<'w>
+    ensures { ask_view result ≡ make_with (number_in starts start.now)
+        (number_in row_counts rows.now) name.now }
+{
+    let Some(start) = start_in(start) else {
+        return Ask::Nothing;
+    };
+    let Some(rows) = number_in(ROW_COUNTS, rows) else {
+        return Ask::Nothing;
+    };
+    if is_operand(name) {
+        Ask::Make { start, rows, name }
     } else {
         Ask::Nothing
     }

@@ -4,7 +4,9 @@
 
 mod each;
 mod scan;
+mod settle;
 mod shared;
+mod workers;
 
 pub use scan::scan_blocks;
 pub use shared::SharedSink;

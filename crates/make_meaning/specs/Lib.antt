@@ -1,0 +1,2 @@
+pub mod LogQuery
+pub mod Laws

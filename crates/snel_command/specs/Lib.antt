@@ -1,0 +1,13 @@
+pub mod Messages
+pub mod Outcomes
+pub mod Lines
+pub mod Causes
+pub mod Ends
+pub mod Headline
+pub mod Effects
+pub mod Stops
+pub mod NamesView
+pub mod Exactly
+pub mod Packs
+pub mod Makes
+pub mod Comes

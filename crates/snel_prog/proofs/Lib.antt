@@ -1,7 +1,0 @@
-mod Sink
-mod Commands
-mod Memory
-mod Asked
-mod Comes
-mod PackedSo
-mod Steady

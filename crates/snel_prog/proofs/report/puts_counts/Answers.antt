@@ -1,5 +1,0 @@
-use Rattle.snel_prog.proofs.Sink.{two}
-use Rattle.snel_prog.proofs.report.puts_counts.Goals as goal
-
-pub returns-clause-line : goal.returns-clause-line
-returns-clause-line g c = two c.puts_numbered.result _ _ _ _ _ c.in_ok-puts_number.ensures.line c.puts_numbered.ensures.line
