@@ -116,11 +116,15 @@ fn sums_pass_64_bits(rt: HostRuntime) -> Result<(), Fail> {
     let mut files = MemFiles::new(rt.alloc(), &[])?;
     files.insert("p", &repeated(rt.alloc(), GREATEST, 2048)?)?;
     files.insert("q", &repeated(rt.alloc(), LEAST, 2048)?)?;
-    let mut words = ["p"; 66];
-    words[0] = "query";
-    words[1] = "SELECT a, COUNT(*) AS n, SUM(a) AS s, AVG(a) AS v FROM logs GROUP BY a ORDER BY a";
-    for word in words.iter_mut().skip(34) {
-        *word = "q";
+    let mut words = Vec::new(rt.alloc());
+    words.push("query")?;
+    words.push(
+        "SELECT a, COUNT(*) AS n, SUM(a) AS s, AVG(a) AS v FROM logs GROUP BY a ORDER BY a",
+    )?;
+    for name in ["p", "q"] {
+        for _ in 0u32..32 {
+            words.push(name)?;
+        }
     }
     let answer =
         "{\"a\":-9223372036854775808,\"n\":65536,\"s\":-604462909807314587353088,\"v\":-9223372036854775808}\n{\"a\":9223372036854775807,\"n\":65536,\"s\":604462909807314587287552,\"v\":9223372036854775807}\n";

@@ -13,8 +13,15 @@ const OF_AN_HOUR: &str =
 const ANSWER: &[u8] =
     b"{\"status\":200,\"n\":6}\n{\"status\":404,\"n\":2}\n{\"status\":500,\"n\":2}\n";
 
-// How long each line of the answer is.
-const LINE: usize = 21;
+// The put that fails, how many bytes it keeps, and how many of the answer are then written: lines of 21 bytes.
+static FAILING_PUTS: [(u32, u32, usize); 6] = [
+    (1, 0, 0),
+    (1, 1, 1),
+    (2, 0, 21),
+    (2, 1, 22),
+    (3, 0, 42),
+    (3, 1, 43),
+];
 
 // Twenty lines, one a minute from ten minutes before the hour on. Every fifth has the status 404, the one behind it 500.
 fn twenty_lines(alloc: Global) -> Result<String, AllocError> {
@@ -126,16 +133,13 @@ fn a_query_ends_at_each_failing_read(rt: HostRuntime) -> Result<(), Fail> {
 #[test]
 fn a_query_ends_at_each_failing_put(rt: HostRuntime) -> Result<(), Fail> {
     let file = packed(&rt)?;
-    for put in 0u32..3 {
-        for kept in 0u32..2 {
-            let written = &ANSWER[..put as usize * LINE + kept as usize];
-            let unwritten = (9, written, "snel: write failed\n");
-            let failing = [(put + 1, kept)];
-            assert!(rt;
-                ends_failing(&rt, &file, &[], &failing, unwritten)?,
-                "{put} {kept}"
-            );
-        }
+    for (put, keeps, length) in FAILING_PUTS {
+        let written = ANSWER.get(..length).unwrap_or(b"");
+        let unwritten = (9, written, "snel: write failed\n");
+        assert!(rt;
+            ends_failing(&rt, &file, &[], &[(put, keeps)], unwritten)?,
+            "{put} {keeps}"
+        );
     }
     assert!(rt; ends_failing(&rt, &file, &[], &[(4, 0)], (0, ANSWER, ""))?);
     Ok(())

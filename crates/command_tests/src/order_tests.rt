@@ -60,13 +60,11 @@ fn arrangement(number: u32) -> Option<[u32; 5]> {
         number / 125 % 5,
         number / 625 % 5,
     ];
-    let mut found = 0;
+    let mut complete = true;
     for place in 0u32..5 {
-        if places.contains(&place) {
-            found += 1;
-        }
+        complete = complete && places.contains(&place);
     }
-    if found == 5 { Some(places) } else { None }
+    if complete { Some(places) } else { None }
 }
 
 // The lines at these places, one behind the other.

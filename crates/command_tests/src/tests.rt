@@ -12,12 +12,14 @@ use std::thread::Threads;
 
 const ALL: &str = "SELECT * FROM logs";
 
+const NO_ROW: &str = "SELECT * FROM logs LIMIT 0";
+
 const LINES: &str = "{\"a\":1,\"b\":\"x\"}\n{\"a\":null}\n{\"b\":7}\n";
 
 const OTHER_WORDS: &str = "snel: words not understood\n";
 
 // Words, which calls of the files fail, and what the call ends with.
-static CALLS: [(&[&str], &[u32], u8, &str, &str); 19] = [
+static CALLS: [(&[&str], &[u32], u8, &str, &str); 21] = [
     (&["query", ALL, "rows"], &[], 0, LINES, ""),
     (&["query"], &[], 2, "", OTHER_WORDS),
     (&[], &[], 2, "", OTHER_WORDS),
@@ -96,6 +98,9 @@ static CALLS: [(&[&str], &[u32], u8, &str, &str); 19] = [
         "snel: files: read failed\n",
     ),
     (&["query", ALL, "rows"], &[5], 0, LINES, ""),
+    // No block is read where no row is asked for.
+    (&["query", NO_ROW, "rows"], &[4], 0, "", ""),
+    (&["query", NO_ROW, "damaged"], &[4], 0, "", ""),
     // Words of a query in any case, over any name.
     (
         &["query", "select * from anything", "rows"],
