@@ -1,6 +1,5 @@
 -- The damage of a gathered board is the first bad block, and where it has none all blocks were drawn once.
-use Rattle.std.proofs.Common.{◌≡◌, ℕ, zero, suc, ◌+◌, ◌<◌, ◌≤◌, ◌⊎◌, min, Bool, true, false, Option, Some, None, List, [], ◌∷◌, ◌++◌, map, length, get_or, All, sym, refl, ap, ◌∙◌, subst, inl, inr, ⊎_elim, arith, if◌then◌else◌}
-use Rattle.std.specs.Prelude.{flat_map}
+use Rattle.std.proofs.Common.{◌≡◌, ℕ, zero, suc, ◌<◌, ◌≤◌, ◌⊎◌, min, Bool, true, false, Option, Some, None, List, [], ◌∷◌, ◌++◌, length, All, sym, refl, ap, ◌∙◌, subst, inl, inr, ⊎_elim, arith, if◌then◌else◌}
 use Rattle.std.proofs.lemmas.Bool.Decides.{nat_tests}
 use Rattle.std.proofs.lemmas.Grind.{flat_map-append}
 use Rattle.std.proofs.lemmas.List.{append-nil}
@@ -9,7 +8,7 @@ use mathlib.Core.Logic.{dite}
 use native.Mathlib.Decide.{dec_lt}
 use lib.ListN.{get_elem?}
 use Rattle.scan_core.specs.Times.{times, total}
-use Rattle.scan_core.specs.Board.{once_below, lesser, AtMost, least_of}
+use Rattle.scan_core.specs.Board.{once_below, AtMost, least_of}
 use Rattle.scan_core.specs.declared.view.ScanView.{ScanView}
 use Rattle.scan_core.proofs.Keeping.{total-at, some-positive, is_least, below_is, least-at, both_later, times-append}
 use Rattle.scan_board.specs.declared.board.Board.{Board}

@@ -23,7 +23,7 @@ use Rattle.worker_merge.specs.Growing.{GrewSomehow}
 use Rattle.worker_merge.specs.Hands.{HandsRows, HandsInOrder, AddsOf, IsTested}
 use Rattle.worker_merge.specs.Draws.{one_held, drawn, IsGoodAt, IsBadAt}
 use Rattle.worker_merge.proofs.Counting.{same_parts, same_total, below, times_below}
-use Rattle.worker_merge.proofs.More.{take_one, good_next, bad_here, hands_more, raised_twice}
+use Rattle.worker_merge.proofs.More.{take_one, good_next, bad_here, hands_more}
 use Rattle.worker_merge.proofs.Places.{there}
 
 pub drawn-append : (hs : List Held) (xs ys : List ℕ) → drawn hs (xs ++ ys) ≡ drawn hs xs ++ drawn hs ys

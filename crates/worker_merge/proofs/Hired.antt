@@ -1,5 +1,5 @@
 -- Workers that were hired, before and after they scanned.
-use Rattle.std.proofs.Common.{◌≡◌, ℕ, ◌<◌, List, length, All, sym, ap, subst, arith, get_or}
+use Rattle.std.proofs.Common.{◌≡◌, ℕ, ◌<◌, List, length, All, subst, arith, get_or}
 use Rattle.value_meaning.specs.Val.{Val}
 use Rattle.program_meaning.specs.Jobs.{Job}
 use Rattle.scan_board.specs.declared.board.Board.{Board}

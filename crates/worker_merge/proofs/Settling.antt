@@ -1,18 +1,14 @@
 -- What the view of a worker says where it goes on and where it stops.
-use Rattle.std.proofs.Common.{◌≡◌, ℕ, ◌+◌, ◌<◌, ◌≤◌, ◌⊎◌, min, Bool, true, false, Option, Some, None, List, [], ◌∷◌, ◌++◌, length, length-append, refl, sym, ap, ◌∙◌, subst, inl, inr, ⊎_elim, arith, if◌then◌else◌}
-use Rattle.std.specs.Prelude.{slice_get}
+use Rattle.std.proofs.Common.{◌≡◌, ℕ, ◌<◌, ◌≤◌, ◌⊎◌, min, Bool, true, false, Option, Some, None, List, [], ◌∷◌, ◌++◌, length, length-append, refl, sym, ap, ◌∙◌, subst, inl, inr, ⊎_elim, arith, if◌then◌else◌}
 use mathlib.Core.Logic.{dite}
 use native.Mathlib.Decide.{dec_lt}
 use Rattle.scan_core.specs.Times.{times}
 use Rattle.scan_core.specs.Board.{lesser, claimed, ending, reported, harmed, saw_rows, saw_damage}
 use Rattle.scan_core.specs.declared.view.ScanView.{ScanView}
 use Rattle.scan_core.proofs.Keeping.{times-append}
-use Rattle.scan_board.specs.declared.board.Go.{Go}
 use Rattle.scan_board.specs.declared.board.Go.TheVariants.{On, Enough, Harm}
 use Rattle.scan_board.specs.Going.{harm_or_on}
-use Rattle.scan_meaning.specs.Blocks.{good_rows}
-use Rattle.scan_files.specs.Places.{Held, block_held}
-use Rattle.worker_merge.specs.Hands.{IsTested}
+use Rattle.scan_files.specs.Places.{Held}
 use Rattle.worker_merge.specs.Draws.{Looked, IsLast, IsClean, known, IsGoodAt, IsBadAt, IsSettled}
 use Rattle.worker_merge.proofs.Counting.{one_there, one_time}
 

@@ -1,4 +1,4 @@
-use Rattle.std.proofs.Common.{arith, Bool, ◌<◌, ◌∙◌, sym, subst, ap, length, List, ℕ}
+use Rattle.std.proofs.Common.{arith, Bool, ◌<◌, ◌∙◌, sym, subst, length, List, ℕ}
 use Rattle.program_meaning.specs.Jobs.{Job}
 use Rattle.scan_board.specs.Seats.{view_of}
 use Rattle.scan_meaning.specs.Blocks.{good_rows}

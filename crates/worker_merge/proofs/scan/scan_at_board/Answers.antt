@@ -1,6 +1,6 @@
-use Rattle.std.proofs.Common.{rules, ◌≡◌, ◌<◌, ◌∙◌, sym, ap, subst, length, All, List, ℕ}
+use Rattle.std.proofs.Common.{rules, ◌≡◌, ◌∙◌, sym, ap, subst, length, All, List}
 use Rattle.worker_merge.specs.declared.workers.Worker.{Worker}
-use Rattle.worker_merge.specs.Draws.{IsReady, IsFresh, IsDone}
+use Rattle.worker_merge.specs.Draws.{IsReady, IsDone}
 use Rattle.worker_merge.proofs.Places.{written_back}
 use Rattle.worker_merge.proofs.Hired.{all_ready, all_take, all_done}
 use Rattle.worker_merge.proofs.scan.scan_at_board.Goals as goal

@@ -1,4 +1,4 @@
-use Rattle.std.proofs.Common.{arith, ◌≡◌, ◌<◌, ◌≤◌, ◌∙◌, sym, ap, subst, length, List, ℕ, None}
+use Rattle.std.proofs.Common.{arith, ◌≡◌, ◌<◌, ◌≤◌, ◌∙◌, sym, ap, length, ℕ, None}
 use Rattle.scan_core.specs.Times.{times}
 use Rattle.scan_core.specs.Board.{once_below}
 use Rattle.scan_board.specs.Seats.{blocks_of, views_of}

@@ -1,10 +1,9 @@
-use Rattle.std.proofs.Common.{arith, ◌≡◌, ℕ, ◌+◌, [], ◌∷◌, ◌++◌, List, length, sym, ap, subst, All}
+use Rattle.std.proofs.Common.{arith, ◌≡◌, sym, ap, subst, All}
 use Rattle.std.proofs.lemmas.List.Elements.{All-push}
 use Rattle.lane_ssa.specs.Counts.{Counts}
 use Rattle.scan_core.specs.Board.{empty_view}
 use Rattle.scan_board.specs.declared.seat.BoardSeat.{BoardSeat}
 use Rattle.scan_board.specs.Seats.{BelongsTo, view_of}
-use Rattle.worker_merge.specs.declared.workers.Worker.{Worker}
 use Rattle.worker_merge.specs.Draws.{IsFresh}
 use Rattle.worker_merge.proofs.Places.{pushed_length, all_front, all_last}
 use Rattle.worker_merge.proofs.workers.hire.Goals as goal
