@@ -23,6 +23,8 @@ mod pack_tests;
 #[cfg(test)]
 mod query_tests;
 #[cfg(test)]
+mod schedule_tests;
+#[cfg(test)]
 mod test_calls;
 #[cfg(test)]
 mod test_files;

@@ -1,5 +1,10 @@
+pub mod Coming
+pub mod Counting
 pub mod Crossing
-pub mod One
-pub mod More
+pub mod Drawn
+pub mod Hired
 pub mod Joining
-pub mod Sharing
+pub mod More
+pub mod One
+pub mod Places
+pub mod Settling

@@ -1,3 +1,3 @@
+pub mod Draws
 pub mod Growing
 pub mod Hands
-pub mod Shares

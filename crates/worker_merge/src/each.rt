@@ -16,11 +16,9 @@ use snel_values::{OutOfMemory, Words};
 use std::alloc::Global;
 
 /// Tests the blocks, in files that index these fields, and hands on each row that passes, in order, and counts what was run.
-/// `first` is the number of the first of them in the batch.
 pub(crate) fn scan_each<'b, G: Gate, S: RowSink>(
     alloc: Global,
     gate: &G,
-    first: usize,
     job: &'b Job,
     heads: &LineHeads,
     fields: &Words,
@@ -38,7 +36,7 @@ pub(crate) fn scan_each<'b, G: Gate, S: RowSink>(
         return Err(BatchFault::OutOfMemory);
     };
     for number in 0..blocks.len() {
-        gate.pass(first.saturating_add(number).min(u32::MAX as usize) as u32);
+        gate.pass(number.min(u32::MAX as usize) as u32);
         let block = &blocks[number];
         match scan_one(alloc, &mut frame, heads, fields, block, sink) {
             Ok(true) => {}

@@ -2,6 +2,7 @@
 //! `scan_blocks(&rt, alloc, &gate, 4, &job, &heads, &fields, &blocks, &mut sink, &mut ran)?`.
 #![tactic(auto)]
 
+mod drawing;
 mod each;
 mod scan;
 mod settle;

@@ -1,18 +1,19 @@
 //! Scanning the blocks of a batch.
 
-ghost use Rattle.std.specs.Prelude.{◌<◌, ◌≤◌, length, OnOk, IfErr};
+ghost use Rattle.std.specs.Prelude.{◌≡◌, ◌<◌, ◌≤◌, length, OnOk, IfErr};
 ghost use Rattle.block_lines.specs.HeadTexts.{AreHeads};
 ghost use Rattle.scan_files.specs.Places.{blocks_held};
 ghost use Rattle.scan_batches.specs.Scans.{SaysOfBatch};
 ghost use Rattle.worker_merge.specs.Hands.{HandsRows};
 
 use crate::each::scan_each;
-use crate::settle::{find_fault, join_all};
+use crate::settle::settle;
 use crate::shared::SharedSink;
-use crate::workers::{hire, scan_shares};
+use crate::workers::{hire, scan_all};
 use block_lines::LineHeads;
 use lane_ssa::{Job, Tally};
 use scan_batches::BatchFault;
+use scan_board::Board;
 use scan_files::Stored;
 use snel_device::Gate;
 use snel_values::{OutOfMemory, Words};
@@ -42,20 +43,31 @@ pub fn scan_blocks<'b, R: Threads + Sync, G: Gate + Sync, S: SharedSink>(
         sink.old sink.new ran.old.chunks ran.new.chunks ran.old.kept ran.new.kept) }
     ensures bad { IfErr result (λ fault. SaysOfBatch (blocks_held fields.now blocks.now) fault) }
 {
-    if workers == 1 || blocks.len() < 2 {
-        return scan_each(alloc, gate, 0, job, heads, fields, blocks, sink, ran);
+    match u32::try_from(blocks.len()) {
+        Ok(count) if 1 < workers && 1 < count => scan_at_board(
+            rt,
+            alloc,
+            gate,
+            workers.min(count),
+            count,
+            job,
+            heads,
+            fields,
+            blocks,
+            sink,
+            ran,
+        ),
+        _ => scan_each(alloc, gate, job, heads, fields, blocks, sink, ran),
     }
-    share_out(
-        rt, alloc, gate, workers, job, heads, fields, blocks, sink, ran,
-    )
 }
 
-// The same, for some workers and some blocks: each worker scans as many blocks that stand together.
-fn share_out<R: Threads + Sync, G: Gate + Sync, S: SharedSink>(
+// The same, for so many workers and blocks: the workers draw the blocks at a board, each the next one that none has drawn.
+fn scan_at_board<R: Threads + Sync, G: Gate + Sync, S: SharedSink>(
     rt: &R,
     alloc: Global,
     gate: &G,
     workers: u32,
+    count: u32,
     job: &Job,
     heads: &LineHeads,
     fields: &Words,
@@ -63,25 +75,22 @@ fn share_out<R: Threads + Sync, G: Gate + Sync, S: SharedSink>(
     sink: &mut S,
     ran: &mut Tally,
 ) -> Result<(), BatchFault>
-    requires some { (0 < workers) × (0 < length blocks.now) }
+    requires workers { (0 < workers) × (workers ≤ 64) }
+    requires count { count ≡ length blocks.now }
     requires takes { S.takes sink.old job.now }
     requires heads { AreHeads job.now.ends.outs heads.now }
     ensures handed { OnOk result (HandsRows S.grew job.now (blocks_held fields.now blocks.now)
         sink.old sink.new ran.old.chunks ran.new.chunks ran.old.kept ran.new.kept) }
     ensures bad { IfErr result (λ fault. SaysOfBatch (blocks_held fields.now blocks.now) fault) }
 {
-    let size = (blocks.len() - 1) / workers as usize + 1;
-    let mut shares = match hire(alloc, sink, size, blocks) {
-        Ok(shares) => shares,
+    let Ok((board, mut seats)) = Board::new(alloc, workers, count, None) else {
+        return Err(BatchFault::OutOfMemory);
+    };
+    let mut hired = match hire(alloc, sink, &mut seats) {
+        Ok(hired) => hired,
         Err(OutOfMemory) => return Err(BatchFault::OutOfMemory),
     };
-    scan_shares(rt, alloc, gate, job, heads, fields, shares.as_mut_slice());
-    match find_fault(job, fields, sink, blocks, &shares) {
-        Ok(()) => {}
-        Err(fault) => return Err(fault),
-    }
-    match join_all(job, fields, shares, sink, ran) {
-        Ok(()) => Ok(()),
-        Err(OutOfMemory) => Err(BatchFault::OutOfMemory),
-    }
+    let at_work = hired.as_mut_slice();
+    scan_all(rt, alloc, gate, &board, job, heads, fields, blocks, at_work);
+    settle(job, fields, blocks, board, seats, hired, sink, ran)
 }
