@@ -21,6 +21,7 @@ const ALL: &str = "SELECT * FROM logs";
 const TURNS: u64 = 100_000_000;
 
 // Holds one claim back until so many have come, and notes if they don't.
+#[derive(Drop)]
 struct HoldingGate {
     held: u32,
     all: u64,
