@@ -1,6 +1,5 @@
 //! Aggregates over rows of each kind, and groups by keys of each kind.
-use crate::test_calls::{STEADY, ends_over, ends_with};
-use crate::test_files::{OF_A, file_around};
+use command_calls::{OF_A, STEADY, ends_over, ends_with, file_around};
 use snel_device::MemFiles;
 use std::alloc::{AllocError, Global};
 use std::random::RandomSource;

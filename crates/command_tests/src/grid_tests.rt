@@ -1,6 +1,5 @@
-use crate::test_calls::ends_on;
-use crate::test_files::{OF_A_AND_B, block_of, file_around, file_of};
 use block_file::open_block;
+use command_calls::{OF_A_AND_B, block_of, ends_on, file_around, file_of};
 use eval_row::eval_row;
 use ion_symtab::value_of;
 use json_out::LineMaker;

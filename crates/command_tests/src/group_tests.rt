@@ -1,5 +1,4 @@
-use crate::test_calls::{STEADY, ends, ends_on};
-use crate::test_files::{OF_A, file_of};
+use command_calls::{OF_A, STEADY, ends, ends_on, file_of};
 use std::random::RandomSource;
 use std::test::Fail;
 use std::thread::Threads;

@@ -1,5 +1,5 @@
 //! ORDER BY over each arrangement of rows whose keys are of many kinds.
-use crate::test_calls::ends_with;
+use command_calls::ends_with;
 use snel_device::MemFiles;
 use std::alloc::{AllocError, Global};
 use std::random::RandomSource;

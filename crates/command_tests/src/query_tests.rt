@@ -1,5 +1,4 @@
-use crate::test_calls::{STEADY, ends, ends_on};
-use crate::test_files::{OF_A, OF_A_AND_B, file_of};
+use command_calls::{OF_A, OF_A_AND_B, STEADY, ends, ends_on, file_of};
 use std::test::Fail;
 
 // Queries over the rows {"a":1,"b":"x"}, {"a":null} and {"b":7}, and their lines.

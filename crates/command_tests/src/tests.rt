@@ -1,7 +1,6 @@
 ghost use Rattle.std.specs.Prelude.{◌≢◌};
 
-use crate::test_calls::{STEADY, ends, ends_on, stored, words_of};
-use crate::test_files::{OF_A, OF_A_AND_B, file_of};
+use command_calls::{OF_A, OF_A_AND_B, STEADY, ends, ends_on, file_of, stored, words_of};
 use snel_command::snel;
 use snel_device::{OpenGate, SteadyFiles, SteadyInput, SteadyOut};
 use snel_values::Words;

@@ -1,6 +1,5 @@
 //! Queries by several workers, under schedules that a gate forces.
-use crate::test_calls::words_of;
-use crate::test_files::{Blocks, OF_A, block_of};
+use command_calls::{Blocks, OF_A, block_of, words_of};
 use snel_command::snel;
 use snel_device::{Gate, MemFiles, MemOut, OpenGate, SteadyInput};
 use std::alloc::{AllocError, Global};

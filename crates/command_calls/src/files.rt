@@ -1,19 +1,20 @@
 //! Block files of rows that tests choose.
 use std::alloc::{AllocError, Global};
 
-// The front of a block: the marker and a symbol table. The first table has `a`, the second `a` and `b`.
-pub(crate) const OF_A: &[u8] = b"\xe0\x01\x00\xea\xe7\x81\x83\xd4\x87\xb2\x81\x61";
+/// The front of a block, the marker and a symbol table, whose only name is `a`.
+pub const OF_A: &[u8] = b"\xe0\x01\x00\xea\xe7\x81\x83\xd4\x87\xb2\x81\x61";
 
-pub(crate) const OF_A_AND_B: &[u8] = b"\xe0\x01\x00\xea\xe9\x81\x83\xd6\x87\xb4\x81\x61\x81\x62";
+/// The same with the names `a` and `b`.
+pub const OF_A_AND_B: &[u8] = b"\xe0\x01\x00\xea\xe9\x81\x83\xd6\x87\xb4\x81\x61\x81\x62";
 
 /// A block file with one block of this table and these rows.
-pub(crate) fn file_of(alloc: Global, table: &[u8], rows: &[&[u8]]) -> Result<Vec<u8>, AllocError> {
+pub fn file_of(alloc: Global, table: &[u8], rows: &[&[u8]]) -> Result<Vec<u8>, AllocError> {
     let block = block_of(alloc, table, rows)?;
     file_around(alloc, &block, u32::try_from(rows.len()).unwrap_or(0))
 }
 
 /// A block file of one block with so many rows.
-pub(crate) fn file_around(alloc: Global, block: &[u8], rows: u32) -> Result<Vec<u8>, AllocError> {
+pub fn file_around(alloc: Global, block: &[u8], rows: u32) -> Result<Vec<u8>, AllocError> {
     let mut bytes = block.to_vec(alloc)?;
     let length = u32::try_from(block.len()).unwrap_or(0);
     bytes.extend_from_slice(&file_end(length, rows))?;
@@ -21,7 +22,7 @@ pub(crate) fn file_around(alloc: Global, block: &[u8], rows: u32) -> Result<Vec<
 }
 
 /// A block with this table and these rows.
-pub(crate) fn block_of(alloc: Global, table: &[u8], rows: &[&[u8]]) -> Result<Vec<u8>, AllocError> {
+pub fn block_of(alloc: Global, table: &[u8], rows: &[&[u8]]) -> Result<Vec<u8>, AllocError> {
     let mut bytes = table.to_vec(alloc)?;
     for row in rows {
         bytes.extend_from_slice(row)?;
@@ -43,7 +44,7 @@ fn file_end(length: u32, rows: u32) -> [u8; 54] {
 
 /// A block file that grows block by block.
 #[derive(Drop)]
-pub(crate) struct Blocks {
+pub struct Blocks {
     alloc: Global,
     field: Vec<u8>,
     bytes: Vec<u8>,
@@ -53,7 +54,7 @@ pub(crate) struct Blocks {
 
 impl Blocks {
     /// No blocks, of a file that indexes the field of this name.
-    pub(crate) fn new(alloc: Global, field: &[u8]) -> Result<Blocks, AllocError> {
+    pub fn new(alloc: Global, field: &[u8]) -> Result<Blocks, AllocError> {
         Ok(Blocks {
             alloc,
             field: field.to_vec(alloc)?,
@@ -64,7 +65,7 @@ impl Blocks {
     }
 
     /// Adds a block of so many rows, with its least and its greatest time.
-    pub(crate) fn push(
+    pub fn push(
         &mut self,
         block: &[u8],
         rows: u32,
@@ -86,7 +87,7 @@ impl Blocks {
     }
 
     /// The bytes of the file.
-    pub(crate) fn finish(&self) -> Result<Vec<u8>, AllocError> {
+    pub fn finish(&self) -> Result<Vec<u8>, AllocError> {
         let mut bytes = self.bytes.as_slice().to_vec(self.alloc)?;
         self.add_index(&mut bytes)?;
         Ok(bytes)

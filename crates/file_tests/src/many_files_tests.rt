@@ -1,6 +1,5 @@
 //! Queries and checks over several files of many blocks.
-use crate::test_calls::{Failing, STEADY, Wanted, ends_over, stored};
-use crate::test_files::Blocks;
+use command_calls::{Blocks, Failing, STEADY, Wanted, ends_over, stored};
 use snel_device::MemFiles;
 use std::alloc::{AllocError, Global};
 use std::random::RandomSource;

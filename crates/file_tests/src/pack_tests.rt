@@ -1,5 +1,5 @@
 //! Calls that pack lines, and what they leave of the files.
-use crate::test_calls::{ends_with, stored};
+use command_calls::{ends_with, stored};
 use snel_device::MemFiles;
 use std::alloc::{AllocError, Global};
 use std::test::Fail;

@@ -1,5 +1,5 @@
 //! A log of twenty minutes, packed to several blocks and to one: a query over a range of its times, and the calls that fail.
-use crate::test_calls::ends_with;
+use command_calls::ends_with;
 use snel_device::MemFiles;
 use std::alloc::{AllocError, Global};
 use std::random::RandomSource;

@@ -1,5 +1,5 @@
 //! Calls that make logs, and what they leave of the files.
-use crate::test_calls::{Failing, STEADY, ends, ends_over};
+use command_calls::{Failing, STEADY, ends, ends_over};
 use snel_device::MemFiles;
 use std::test::Fail;
 

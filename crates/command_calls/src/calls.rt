@@ -7,13 +7,13 @@ use std::random::RandomSource;
 use std::thread::Threads;
 
 /// The calls of the files that fail, and the puts to the output and to the error output that do, each with what it keeps.
-pub(crate) type Failing<'a> = (&'a [u32], &'a [(u32, u32)], &'a [(u32, u32)]);
+pub type Failing<'a> = (&'a [u32], &'a [(u32, u32)], &'a [(u32, u32)]);
 
 /// Nothing fails.
-pub(crate) const STEADY: Failing<'static> = (&[], &[], &[]);
+pub const STEADY: Failing<'static> = (&[], &[], &[]);
 
-/// A status, what was written on the output, and what on the error output.
-pub(crate) type Wanted<'a> = (u8, &'a [u8], &'a str);
+/// The status that a call is to end with, what it is to write on the output, and what on the error output.
+pub type Wanted<'a> = (u8, &'a [u8], &'a str);
 
 // One block with the rows {"a":1,"b":"x"}, {"a":null} and {"b":7}.
 const THREE_ROWS: [u8; 82] = [
@@ -32,7 +32,7 @@ const NO_BLOCKS: [u8; 22] = [
 ];
 
 /// Whether a call of these words over the stored files ends so.
-pub(crate) fn ends<R: Threads + Sync + RandomSource + AllocGlobal>(
+pub fn ends<R: Threads + Sync + RandomSource + AllocGlobal>(
     rt: &R,
     texts: &[&str],
     failing: Failing<'_>,
@@ -45,7 +45,7 @@ pub(crate) fn ends<R: Threads + Sync + RandomSource + AllocGlobal>(
 }
 
 /// Whether a query over a file of this name and these bytes ends so.
-pub(crate) fn ends_on<R: Threads + Sync + RandomSource + AllocGlobal>(
+pub fn ends_on<R: Threads + Sync + RandomSource + AllocGlobal>(
     rt: &R,
     sql: &str,
     bytes: &[u8],
@@ -58,7 +58,7 @@ pub(crate) fn ends_on<R: Threads + Sync + RandomSource + AllocGlobal>(
 }
 
 /// Whether a call of these words over these files ends so.
-pub(crate) fn ends_over<R: Threads + Sync + RandomSource + AllocGlobal>(
+pub fn ends_over<R: Threads + Sync + RandomSource + AllocGlobal>(
     rt: &R,
     texts: &[&str],
     files: &mut MemFiles,
@@ -124,7 +124,7 @@ fn status_of<R: Threads + Sync + RandomSource + AllocGlobal>(
 
 /// Whether a call of these words over these files and this input ends so. One byte comes with each call of the input, or 4,096
 /// of a long one; of its calls those of these numbers fail.
-pub(crate) fn ends_with<R: Threads + Sync + RandomSource + AllocGlobal>(
+pub fn ends_with<R: Threads + Sync + RandomSource + AllocGlobal>(
     rt: &R,
     texts: &[&str],
     files: &mut MemFiles,
@@ -149,7 +149,8 @@ pub(crate) fn ends_with<R: Threads + Sync + RandomSource + AllocGlobal>(
     status == wanted.0 && out.bytes() == wanted.1 && err.bytes() == wanted.2.as_bytes()
 }
 
-pub(crate) fn words_of(alloc: Global, texts: &[&str]) -> Result<Words, OutOfMemory> {
+/// These texts as the words of a call.
+pub fn words_of(alloc: Global, texts: &[&str]) -> Result<Words, OutOfMemory> {
     let mut words = Words::new(alloc);
     for text in texts {
         words.push(text)?;
@@ -158,7 +159,7 @@ pub(crate) fn words_of(alloc: Global, texts: &[&str]) -> Result<Words, OutOfMemo
 }
 
 /// The file `rows` has three rows; `cut` is the same less its last byte, and `damaged` has a wrong first byte.
-pub(crate) fn stored(alloc: Global, failing: &[u32]) -> Result<MemFiles, AllocError> {
+pub fn stored(alloc: Global, failing: &[u32]) -> Result<MemFiles, AllocError> {
     let mut damaged = THREE_ROWS;
     damaged[0] = 0;
     let contents: [(&str, &[u8]); 5] = [

@@ -1,5 +1,5 @@
 //! Lines of JSON: the rows that they are packed to, as a query gives them back, and the lines that are refused.
-use crate::test_calls::ends_with;
+use command_calls::ends_with;
 use snel_device::MemFiles;
 use std::alloc::{AllocError, Global};
 use std::random::RandomSource;
