@@ -1,17 +1,17 @@
 -- Registers of a frame, in one lane.
-use Rattle.std.proofs.Common.{◌≡◌, ℕ, zero, suc, ◌+◌, ◌<◌, arith, refl, ap, sym, ◌∙◌, List, [], ◌∷◌, ◌++◌, length, map, take, slice_index_or, Option}
-use Rattle.std.proofs.lemmas.List.{length-map, get_or-map}
-use Rattle.std.proofs.lemmas.List.Sums.{fold-append}
+use Rattle.std.proofs.Common.{◌≡◌, ℕ, zero, suc, ◌+◌, ◌<◌, ◌≤◌, arith, refl, ap, sym, ◌∙◌, true, false, cond, not, List, [], ◌∷◌, ◌++◌, length, map, take, slice_index_or, Option}
+use Rattle.std.proofs.lemmas.List.{length-map, get_or-map, length-take-le, take_all}
+use Rattle.std.proofs.lemmas.List.Sums.{fold-append, count_by_more_yes, sum_by-take-le}
 use Rattle.block_meaning.specs.Tables.{Table}
 use Rattle.lane_base.specs.declared.mask.LaneMask.{LaneMask}
 use Rattle.lane_base.specs.declared.lanes.Lanes.{Lanes}
 use Rattle.lane_base.specs.Bits.{has}
 use Rattle.lane_base.specs.Registers as registers
-use Rattle.program_meaning.specs.Instructions.{Instr}
+use Rattle.program_meaning.specs.Instructions.{Instr, makes_mask}
 use Rattle.program_meaning.specs.Instructions as instr
-use Rattle.program_meaning.specs.Programs.{mask_count, value_count, IsInstruction, IsProgram}
+use Rattle.program_meaning.specs.Programs.{makes_value, mask_count, value_count, IsInstruction, IsProgram}
 use Rattle.program_meaning.specs.Registers.{Lane, State, step, empty, after}
-use Rattle.program_meaning.proofs.Programs.{length-masks, length-values, masks_few, values_few, names_at}
+use Rattle.program_meaning.proofs.Programs.{length-masks, length-values, names_at}
 use Rattle.lane_ssa.specs.declared.instr.Instr.{Instr as InstrCode}
 use Rattle.lane_text.specs.PatternValue.{PatternValue}
 use Rattle.lane_ssa.specs.Compiled.{pattern_of, patterns_of}
@@ -37,21 +37,37 @@ pattern_at xs ps k x p compiled e is h =
     is ∙ ap (λ ys. slice_index_or ys k p) compiled ∙ get_or-map pattern_of (map instr_view xs) k instr.all p within
     ∙ ap pattern_of (viewed_at xs k x e h)
 
--- what holds of the registers before one instruction of a program
-pub record IsNext (table : Table) (ms : List LaneMask) (vs : List Lanes) (program : List Instr) (x : Instr) : Type 0 where
-  pub names : IsInstruction (length ms) (length vs) x
-  pub mask_room : length ms < length program
-  pub value_room : length vs < length program
+-- what holds before one instruction of a program, where m masks and v values are made
+pub record IsNext (ms : List LaneMask) (vs : List Lanes) (m v : ℕ) (x : Instr) : Type 0 where
+  pub names : IsInstruction m v x
+  pub mask_room : makes_mask x ≡ true → m < length ms
+  pub value_room : makes_mask x ≡ false → v < length vs
 
-pub is_next : (table : Table) (ms : List LaneMask) (vs : List Lanes) (program : List Instr) (k : ℕ) (x : Instr) (l : Lane) → k < length program → IsProgram program → slice_index_or program k instr.all ≡ x → registers_at table ms vs 0 ≡ after l (take k program) → IsNext table ms vs program x
-is_next table ms vs program k x l h p here e =
-    let m = masks_long table ms vs 0 l (take k program) e in
-    let v = values_long table ms vs 0 l (take k program) e in
-    record {
-      names = rw (m, v, sym here) (names_at program k instr.all h p);
-      mask_room = omega (arith, m, masks_few program k h);
-      value_room = omega (arith, v, values_few program k h);
-    }
+module _ (table : Table) (ms : List LaneMask) (vs : List Lanes) (m v : ℕ) (program : List Instr) (hm : m ≤ length ms) (hv : v ≤ length vs) (lm : length ms ≡ mask_count program) (lv : length vs ≡ value_count program) where
+  made_masks : (i : ℕ) (l : Lane) (xs : List Instr) → registers_at table (take m ms) (take v vs) i ≡ after l xs → m ≡ mask_count xs
+  made_masks i l xs e = sym (length-take-le m ms hm) ∙ masks_long table (take m ms) (take v vs) i l xs e
+
+  made_values : (i : ℕ) (l : Lane) (xs : List Instr) → registers_at table (take m ms) (take v vs) i ≡ after l xs → v ≡ value_count xs
+  made_values i l xs e = sym (length-take-le v vs hv) ∙ values_long table (take m ms) (take v vs) i l xs e
+
+  pub is_next : (k : ℕ) (x : Instr) (l : Lane) → k < length program → IsProgram program → slice_index_or program k instr.all ≡ x → registers_at table (take m ms) (take v vs) 0 ≡ after l (take k program) → IsNext ms vs m v x
+  is_next k x l h p here e =
+      let em = made_masks 0 l (take k program) e in
+      let ev = made_values 0 l (take k program) e in
+      record {
+        names = rw (em, ev, sym here) (names_at program k instr.all h p);
+        mask_room = λ is. omega (arith, em, lm, count_by_more_yes makes_mask program k instr.all h (ap makes_mask here ∙ is), sum_by-take-le (λ x. cond (makes_mask x) 1 0) program (k + 1));
+        value_room = λ is. omega (arith, ev, lv, count_by_more_yes makes_value program k instr.all h (ap makes_value here ∙ ap not is), sum_by-take-le (λ x. cond (makes_value x) 1 0) program (k + 1));
+      }
+
+  -- after the whole program every value is made
+  pub all_values : (k i : ℕ) (l : Lane) → length program ≤ k → registers_at table (take m ms) (take v vs) i ≡ after l (take k program) → take v vs ≡ vs
+  all_values k i l h e = take_all v vs (omega (arith, lv, made_values i l (take k program) e ∙ ap value_count (take_all k program h)))
+
+  pub run_end : (k i : ℕ) (l : Lane) → length program ≤ k → registers_at table (take m ms) (take v vs) i ≡ after l (take k program) → registers_at table ms vs i ≡ after l program
+  run_end k i l h e =
+      let whole = take_all m ms (omega (arith, lm, made_masks i l (take k program) e ∙ ap mask_count (take_all k program h))) in
+      ap (λ xs. registers_at table xs vs i) (sym whole) ∙ ap (λ ys. registers_at table (take m ms) ys i) (sym (all_values k i l h e)) ∙ e ∙ ap (after l) (take_all k program h)
 
 take_next : {X : Type 0} (xs : List X) (k : ℕ) (d : X) → k < length xs → take (k + 1) xs ≡ take k xs ++ slice_index_or xs k d ∷ []
 take_next [] k d h = absurd (omega arith)

@@ -21,13 +21,13 @@ use crate::run::run_rows;
 use crate::tally::Tally;
 use block_file::{Block, Chunk};
 use ion_symtab::SymTab;
-use lane_base::{LaneMask, Lanes, Look};
+use lane_base::{LaneMask, Lanes, Look, SpanLanes};
 use lane_text::Pattern;
 use snel_values::OutOfMemory;
 use std::alloc::Global;
 use std::marker::Model;
 
-/// The registers of a job, with room for all of them, and its patterns, compiled. A frame is bound to the symbol table of a
+/// The registers of a job, each in its place, and its patterns, compiled. A frame is bound to the symbol table of a
 /// block, and then runs chunks of that block.
 #[derive(Drop)]
 pub struct Frame<'b> {
@@ -42,6 +42,7 @@ pub struct Frame<'b> {
 
 impl<'b> Model for Frame<'b> {
     ghost use Rattle.std.specs.Prelude.{◌≡◌, ◌≤◌, length, vec_capacity};
+    ghost use Rattle.program_meaning.specs.Programs.{mask_count, value_count};
     ghost use Rattle.lane_ssa.specs.Compiled.{patterns_of};
     ghost use Rattle.lane_ssa.specs.Frames.{FrameView};
     ghost use Rattle.std.specs.Coded.{codes};
@@ -61,11 +62,11 @@ impl<'b> Model for Frame<'b> {
       kept = f.tally.kept;
     } };
 
-    ghost invariant = { λ f. (length f.job.now.program ≤ vec_capacity f.symbols) × (length f.job.now.program ≤ vec_capacity f.masks) × (length f.job.now.program ≤ vec_capacity f.values) × (f.patterns.items ≡ patterns_of f.job.now.program) };
+    ghost invariant = { λ f. (length f.job.now.program ≤ vec_capacity f.symbols) × (length f.masks.items ≡ mask_count f.job.now.program) × (length f.values.items ≡ value_count f.job.now.program) × (f.patterns.items ≡ patterns_of f.job.now.program) };
 }
 
 impl<'b> Frame<'b> {
-    /// A frame for the job, with no register yet. All its memory is taken here.
+    /// A frame for the job, with blank registers. All its memory is taken here.
     pub fn new(alloc: Global, job: &'b Job) -> Result<Frame<'b>, OutOfMemory>
         ensures job { IfOk result (λ f. f.job ≡ job.now) }
         ensures passed { IfOk result (λ f. f.passed ≡ 0) }
@@ -77,8 +78,8 @@ impl<'b> Frame<'b> {
             job,
             symbols: Vec::with_capacity(alloc, count)?,
             patterns: compile_all(alloc, job.instrs())?,
-            masks: Vec::with_capacity(alloc, count)?,
-            values: Vec::with_capacity(alloc, count)?,
+            masks: vec![in alloc; LaneMask(0); job.mask_count()]?,
+            values: vec![in alloc; blank(); job.value_count()]?,
             passed: LaneMask(0),
             tally: Tally::none(),
         })
@@ -156,4 +157,9 @@ impl<'b> Frame<'b> {
     {
         self.tally
     }
+}
+
+/// A register that shows nothing yet.
+fn blank<'b>() -> Lanes<'b> {
+    Lanes::trees(LaneMask(0), SpanLanes { lanes: [&[]; 16] })
 }

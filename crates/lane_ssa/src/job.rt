@@ -78,6 +78,8 @@ impl Builder {
     {
         Job {
             instrs: self.instrs,
+            masks: self.masks,
+            values: self.values,
             ends,
         }
     }
@@ -94,12 +96,16 @@ fn makes_mask(instr: &Instr) -> bool
 #[derive(Drop)]
 pub struct Job {
     instrs: Vec<Instr>,
+    masks: u32,
+    values: u32,
     ends: Ends,
 }
 
 impl Model for Job {
-    ghost use Rattle.std.specs.Prelude.{map};
+    ghost use Rattle.std.specs.Prelude.{◌≡◌, map};
     ghost use Rattle.program_meaning.specs.Jobs.{Job as JobValue, IsJob};
+    ghost use Rattle.program_meaning.specs.Programs.{mask_count, value_count};
+    ghost use Rattle.lane_ssa.specs.Views.{instr_view};
     ghost use Rattle.lane_ssa.specs.JobViews.{job_view};
     ghost use Rattle.lane_ssa.specs.CodedJob.{coded_job};
 
@@ -109,7 +115,7 @@ impl Model for Job {
 
     ghost view = { λ j. job_view j.instrs.items j.ends };
 
-    ghost invariant = { λ j. IsJob (job_view j.instrs.items j.ends) };
+    ghost invariant = { λ j. IsJob (job_view j.instrs.items j.ends) × (j.masks ≡ mask_count (map instr_view j.instrs.items)) × (j.values ≡ value_count (map instr_view j.instrs.items)) };
 }
 
 impl Job {
@@ -119,6 +125,20 @@ impl Job {
         ensures program { IsProgram self.now.program }
     {
         self.instrs.as_slice()
+    }
+
+    /// How many masks the program makes.
+    pub(crate) fn mask_count(&self) -> usize
+        ensures { result ≡ mask_count self.now.program }
+    {
+        self.masks as usize
+    }
+
+    /// How many values the program makes.
+    pub(crate) fn value_count(&self) -> usize
+        ensures { result ≡ value_count self.now.program }
+    {
+        self.values as usize
     }
 
     /// What the job ends in.

@@ -1,6 +1,6 @@
-//! One instruction over the registers that were made before it.
+//! One instruction over the registers that were made before it. Registers lie in their places, and each is written by number.
 
-ghost use Rattle.std.specs.Prelude.{◌≡◌, ◌<◌, ◌≤◌, ◌++◌, ◌∷◌, [], ℕ, All, true, false, length, vec_len, vec_capacity};
+ghost use Rattle.std.specs.Prelude.{◌≡◌, ◌<◌, ◌≤◌, ◌+◌, ◌++◌, ◌∷◌, [], ℕ, All, true, false, length, take};
 ghost use Rattle.block_meaning.specs.Tables.{Table};
 ghost use Rattle.program_meaning.specs.Instructions.{makes_mask};
 ghost use Rattle.program_meaning.specs.Programs.{IsInstruction};
@@ -24,7 +24,15 @@ use ion_symtab::SymTab;
 use lane_base::{LaneMask, Lanes, const16, keep16, merge16, true16};
 use lane_text::Pattern;
 
-/// Makes the register of one instruction. `symbol` is the number of its name, `pattern` its pattern.
+/// How many registers of each kind are made.
+#[derive(Clone, Copy)]
+pub(crate) struct Made {
+    pub masks: usize,
+    pub values: usize,
+}
+
+/// Makes the register of one instruction, behind those that are made, and says how many are made then. `symbol` is the number
+/// of its name, `pattern` its pattern.
 #[inline(always)]
 pub(crate) fn make<'b>(
     instr: &'b Instr,
@@ -33,39 +41,55 @@ pub(crate) fn make<'b>(
     table: &SymTab<'b>,
     live: LaneMask,
     rows: &Lanes<'b>,
+    made: Made,
     masks: &mut Vec<LaneMask>,
     values: &mut Vec<Lanes<'b>>,
-)
-    requires names { IsInstruction (length masks.old.items) (length values.old.items) (instr_view instr.now) }
+) -> Made
+    requires names { IsInstruction made.masks made.values (instr_view instr.now) }
     requires symbol { IsSymbolOf table.now (instr_view instr.now) symbol }
     requires pattern { pattern.now ≡ pattern_of (instr_view instr.now) }
     requires readable { IsReadable table.now }
     requires rows { AreLegal table.now rows.now }
-    requires legal { All (AreLegal table.now) values.old.items }
-    requires mask_room { vec_len masks.old < vec_capacity masks.old }
-    requires value_room { vec_len values.old < vec_capacity values.old }
-    ensures state { (i : ℕ) → i < 16 → registers_at table.now masks.new.items values.new.items i
-        ≡ step (lane_at table.now live.0 rows.now i) (registers_at table.now masks.old.items values.old.items i) (instr_view instr.now) }
-    ensures legal { All (AreLegal table.now) values.new.items }
-    ensures mask_room { vec_capacity masks.old ≤ vec_capacity masks.new }
-    ensures value_room { vec_capacity values.old ≤ vec_capacity values.new }
+    requires legal { All (AreLegal table.now) (take made.values values.old.items) }
+    requires masks { made.masks ≤ length masks.old.items }
+    requires values { made.values ≤ length values.old.items }
+    requires mask_room { makes_mask (instr_view instr.now) ≡ true → made.masks < length masks.old.items }
+    requires value_room { makes_mask (instr_view instr.now) ≡ false → made.values < length values.old.items }
+    ensures state { (i : ℕ) → i < 16
+        → registers_at table.now (take result.masks masks.new.items) (take result.values values.new.items) i
+        ≡ step (lane_at table.now live.0 rows.now i)
+        (registers_at table.now (take made.masks masks.old.items) (take made.values values.old.items) i)
+        (instr_view instr.now) }
+    ensures legal { All (AreLegal table.now) (take result.values values.new.items) }
+    ensures masks { result.masks ≤ length masks.new.items }
+    ensures values { result.values ≤ length values.new.items }
+    ensures masks_long { length masks.new.items ≡ length masks.old.items }
+    ensures values_long { length values.new.items ≡ length values.old.items }
 {
     match instr {
         Instr::All | Instr::True { .. } | Instr::Minus { .. } => {
-            let made = mask16(instr, live, masks.as_slice(), values.as_slice());
-            put_mask(masks, made);
+            let mask = mask16(instr, live, &masks[..made.masks], &values[..made.values]);
+            put_mask(masks, made.masks, mask);
+            Made {
+                masks: made.masks + 1,
+                values: made.values,
+            }
         }
         _ => {
-            let made = value16(
+            let value = value16(
                 instr,
                 symbol,
                 pattern,
                 table,
                 rows,
-                masks.as_slice(),
-                values.as_slice(),
+                &masks[..made.masks],
+                &values[..made.values],
             );
-            put_value(values, made);
+            put_value(values, made.values, value);
+            Made {
+                masks: made.masks,
+                values: made.values + 1,
+            }
         }
     }
 }
@@ -130,28 +154,22 @@ fn value16<'b>(
     }
 }
 
-/// Adds a mask register, for which there is room.
+/// Writes a mask register.
 #[inline(always)]
-fn put_mask(masks: &mut Vec<LaneMask>, mask: LaneMask)
-    requires { vec_len masks.old < vec_capacity masks.old }
-    ensures items { masks.new.items ≡ masks.old.items ++ mask ∷ [] }
-    ensures room { vec_capacity masks.old ≤ vec_capacity masks.new }
+fn put_mask(masks: &mut Vec<LaneMask>, at: usize, mask: LaneMask)
+    requires { at < length masks.old.items }
+    ensures long { length masks.new.items ≡ length masks.old.items }
+    ensures made { take (at + 1) masks.new.items ≡ take at masks.old.items ++ mask ∷ [] }
 {
-    match masks.push(mask) {
-        Ok(()) => {}
-        Err(_) => unreachable!(),
-    }
+    masks[at] = mask;
 }
 
-/// Adds a value register, for which there is room.
+/// Writes a value register.
 #[inline(always)]
-fn put_value<'b>(values: &mut Vec<Lanes<'b>>, value: Lanes<'b>)
-    requires { vec_len values.old < vec_capacity values.old }
-    ensures items { values.new.items ≡ values.old.items ++ value.entry ∷ [] }
-    ensures room { vec_capacity values.old ≤ vec_capacity values.new }
+fn put_value<'b>(values: &mut Vec<Lanes<'b>>, at: usize, value: Lanes<'b>)
+    requires { at < length values.old.items }
+    ensures long { length values.new.items ≡ length values.old.items }
+    ensures made { take (at + 1) values.new.items ≡ take at values.old.items ++ value.entry ∷ [] }
 {
-    match values.push(value) {
-        Ok(()) => {}
-        Err(_) => unreachable!(),
-    }
+    values[at] = value;
 }

@@ -1,4 +1,4 @@
-ghost use Rattle.std.specs.Prelude.{◌≡◌, ◌<◌, ◌≤◌, ℕ, All, map, length, vec_capacity};
+ghost use Rattle.std.specs.Prelude.{◌≡◌, ◌<◌, ℕ, All, map, length};
 ghost use Rattle.block_file.specs.Chunks.{AreCellsOf};
 ghost use Rattle.program_meaning.specs.Programs.{IsProgram, mask_count, value_count};
 ghost use Rattle.program_meaning.specs.Registers.{after, HasRun};
@@ -13,14 +13,15 @@ ghost use Rattle.lane_ssa.specs.Views.{instr_view};
 
 use crate::instr::Instr;
 use crate::job::Job;
-use crate::make::make;
+use crate::make::{Made, make};
 use crate::rows::{live_of, rows16};
 use block_file::{Block, Chunk};
 use ion_symtab::SymTab;
 use lane_base::{LaneMask, Lanes};
 use lane_text::Pattern;
 
-/// Makes the registers of a program, on the rows of the live lanes.
+/// Makes the registers of a program in their places, in the order of their numbers, on the rows of the live lanes. What stood
+/// in them before is written over.
 fn run<'b>(
     instrs: &'b [Instr],
     symbols: &[Option<u32>],
@@ -36,24 +37,27 @@ fn run<'b>(
     requires compiled { patterns.now ≡ patterns_of (map instr_view instrs.now) }
     requires readable { IsReadable table.now }
     requires rows { AreLegal table.now rows.now }
-    requires mask_room { length instrs.now ≤ vec_capacity masks.old }
-    requires value_room { length instrs.now ≤ vec_capacity values.old }
+    requires masks { length masks.old.items ≡ mask_count (map instr_view instrs.now) }
+    requires values { length values.old.items ≡ value_count (map instr_view instrs.now) }
     ensures state { (i : ℕ) → i < 16 → registers_at table.now masks.new.items values.new.items i
         ≡ after (lane_at table.now live.0 rows.now i) (map instr_view instrs.now) }
     ensures legal { All (AreLegal table.now) values.new.items }
-    ensures mask_room { length instrs.now ≤ vec_capacity masks.new }
-    ensures value_room { length instrs.now ≤ vec_capacity values.new }
+    ensures masks { length masks.new.items ≡ mask_count (map instr_view instrs.now) }
+    ensures values { length values.new.items ≡ value_count (map instr_view instrs.now) }
 {
-    masks.clear();
-    values.clear();
+    let mut made = Made {
+        masks: 0,
+        values: 0,
+    };
     for k in 0..instrs.len() {
-        make(
+        made = make(
             &instrs[k],
             symbols[k],
             &patterns[k],
             table,
             live,
             rows,
+            made,
             masks,
             values,
         );
@@ -73,16 +77,14 @@ pub(crate) fn run_rows<'b>(
     requires bound { IsBound block.now.0 job.now.program symbols.now }
     requires compiled { patterns.now ≡ patterns_of job.now.program }
     requires chunk { IsChunkOf block.now.0 block.now.1 chunk.now }
-    requires mask_room { length job.now.program ≤ vec_capacity masks.old }
-    requires value_room { length job.now.program ≤ vec_capacity values.old }
+    requires masks { length masks.old.items ≡ mask_count job.now.program }
+    requires values { length values.old.items ≡ value_count job.now.program }
     ensures ran { (first : ℕ) → AreCellsOf block.now.0 (rows_from first block.now.1) chunk.now
         → HasRun job.now.program (lanes_of (rows_from first block.now.1))
         (registers_at block.now.0 masks.new.items values.new.items) }
     ensures legal { All (AreLegal block.now.0) values.new.items }
     ensures masks { length masks.new.items ≡ mask_count job.now.program }
     ensures values { length values.new.items ≡ value_count job.now.program }
-    ensures mask_room { length job.now.program ≤ vec_capacity masks.new }
-    ensures value_room { length job.now.program ≤ vec_capacity values.new }
 {
     block.know();
     let table = block.table();
