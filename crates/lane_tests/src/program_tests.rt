@@ -5,9 +5,10 @@ ghost use Rattle.program_meaning.specs.Jobs.{AreEnds};
 ghost use Rattle.lane_ssa.specs.Bound.{IsBound};
 ghost use Rattle.lane_ssa.specs.Views.{instr_view, ends_view};
 
-use crate::{Builder, EndAggs, EndOuts, Ends, Frame, Instr, Job, Registers, Tally};
+use crate::looks::is_look;
 use block_file::{Block, open_block};
 use lane_base::{LaneMask, Look};
+use lane_ssa::{Builder, EndAggs, EndOuts, Ends, Frame, Instr, Job, Registers, Tally};
 use snel_values::{OutOfMemory, Text, Value};
 use std::alloc::Global;
 use std::process::Abort;
@@ -261,16 +262,6 @@ fn job(alloc: Global, k: u32) -> Option<Job>
     match build(alloc, &mut builder, k) {
         Ok(()) => Some(builder.finish(ends(alloc))),
         Err(_) => None,
-    }
-}
-
-fn is_look(look: Look<'_>, wanted: Look<'_>) -> bool {
-    match (look, wanted) {
-        (Look::Missing, Look::Missing) | (Look::Null, Look::Null) => true,
-        (Look::Bool(a), Look::Bool(b)) => a == b,
-        (Look::Int(a), Look::Int(b)) | (Look::Time(a), Look::Time(b)) => a == b,
-        (Look::Text(a), Look::Text(b)) | (Look::Tree(a), Look::Tree(b)) => a == b,
-        _ => false,
     }
 }
 

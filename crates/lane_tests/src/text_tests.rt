@@ -1,5 +1,5 @@
-use crate::{Pattern, length16, match16};
 use lane_base::{LaneMask, Lanes, Look, const16, merge16};
+use lane_text::{Pattern, length16, match16};
 use std::alloc::Global;
 use std::test::Fail;
 use tree_meaning::How;

@@ -1,5 +1,5 @@
-use crate::{compare16, null16};
 use lane_base::{IntLanes, LaneMask, Lanes, Look, SpanLanes, const16};
+use lane_compare::{compare16, null16};
 use tree_meaning::BinOp;
 
 /// One value of each kind: MISSING, NULL, true, false, a number, a time, a text, a list.

@@ -2,10 +2,11 @@ ghost use Rattle.std.specs.Prelude.{ℕ, IfSome};
 ghost use Rattle.ion_cells.specs.Shown.{Fits};
 ghost use Rattle.lane_field.specs.CellsOf.{AreCellsOf};
 
-use crate::{CellLanes, bools16, find16, ints16, item16, kinds16, load16, micros16, texts16};
+use crate::looks::is_look;
 use ion_cells::{Cell, cell_at};
 use ion_symtab::{SymTab, read};
 use lane_base::{LaneMask, Lanes, Look};
+use lane_field::{CellLanes, bools16, find16, ints16, item16, kinds16, load16, micros16, texts16};
 use std::process::Abort;
 use std::test::Fail;
 
@@ -54,17 +55,6 @@ fn lanes_of<'b>(rows: &[&'b [u8]], table: &SymTab<'b>) -> CellLanes<'b>
         }
     }
     cells
-}
-
-/// A look as text: M, N, T, F, a number, a time, a text, or R for a list or struct.
-fn is_look(look: Look<'_>, wanted: Look<'_>) -> bool {
-    match (look, wanted) {
-        (Look::Missing, Look::Missing) | (Look::Null, Look::Null) => true,
-        (Look::Bool(a), Look::Bool(b)) => a == b,
-        (Look::Int(a), Look::Int(b)) | (Look::Time(a), Look::Time(b)) => a == b,
-        (Look::Text(a), Look::Text(b)) | (Look::Tree(a), Look::Tree(b)) => a == b,
-        _ => false,
-    }
 }
 
 /// The lanes show these in order, and MISSING after them.

@@ -1,5 +1,5 @@
-use crate::{cast16, math16, neg16};
 use lane_base::{IntLanes, LaneMask, Lanes, Look, const16};
+use lane_cast::{cast16, math16, neg16};
 use tree_meaning::{BinOp, CastTo};
 
 /// One value of each kind: MISSING, NULL, true, false, a number, a time, a text, a list.

@@ -1,4 +1,4 @@
-use crate::{
+use lane_base::{
     LaneMask, Lanes, Look, and16, const16, first16, is16, keep16, merge16, not16, or16, true16,
 };
 use tree_meaning::IsWhat;

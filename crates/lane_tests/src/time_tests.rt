@@ -3,8 +3,8 @@
 
 ghost use Rattle.std.specs.Prelude.{◌<◌};
 
-use crate::{extract16, shift16, trunc16, unix16};
 use lane_base::{IntLanes, LaneMask, Lanes, Look};
+use lane_time::{extract16, shift16, trunc16, unix16};
 use tree_meaning::{Func, Part};
 
 static TIMES: [i64; 16] = [
