@@ -66,6 +66,11 @@ alike vs ws i h k sofar = sym (sofar ∙ (λ j. same_keys (drop_all i vs h j) (d
 pub unlike : (vs ws : List Val) → (length vs ≡ length ws → ⊥) → false ≡ same_keys vs ws
 unlike vs ws h = one_way (same_keys vs ws) (λ e. h (ap length (same_keys-exact vs ws e)))
 
+-- lists of one key each
+pub one_alike : (vs ws : List Val) (v w : Val) (o : Bool) → length vs ≤ 1 → length ws ≤ 1 → vs ≡ v ∷ drop 1 vs → ws ≡ w ∷ drop 1 ws → (o ≡ true) ↔ (v ≡ w) → o ≡ same_keys vs ws
+one_alike vs ws v w true h k left right test = alike vs ws 1 h k (still_alike vs ws 0 v w true left right test refl refl)
+one_alike vs ws v w false h k left right test = told_apart vs ws 0 v w false left right test refl refl
+
 -- one more of a list passes
 pub all_more : {A : Type 0} (P : A → Type 0) (xs : List A) (i : ℕ) (x : A) → Some x ≡ slice_get xs i → P x → All P (take i xs) → All P (take (i + 1) xs)
 all_more {A = A} P xs i x h p sofar = subst (λ l. All P l) (on xs i h ∙ ap (λ n. take n xs) (sym (add-one i))) (All-append P (take i xs) (x ∷ []) sofar (All-cons P x [] p (All-nil P)))

@@ -2,6 +2,7 @@ pub mod Counting
 pub mod Rooms
 pub mod Taking
 pub mod Merged
+pub mod OneKey
 pub mod Summing
 pub mod Showing
 pub mod Summaries

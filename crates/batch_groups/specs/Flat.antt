@@ -1,9 +1,9 @@
 -- Keys that are compared where they lie.
-use Rattle.std.specs.Prelude.{◌≡◌, ℕ, ◌<◌, false, List, All, length, map}
+use Rattle.std.specs.Prelude.{◌≡◌, ℕ, ◌<◌, false, List, All, Some, length, map, slice_get}
 use Rattle.value_meaning.specs.Val.{Val}
 use Rattle.block_meaning.specs.Tables.{Table}
 use Rattle.program_meaning.specs.Registers.{value_at}
-use Rattle.lane_base.specs.Shown.{is_nested}
+use Rattle.lane_base.specs.Shown.{Shown, is_nested, value_under, IsLegal}
 use Rattle.lane_base.specs.Registers.{AreLegal}
 use Rattle.lane_ssa.specs.Frames.{FrameView, state_at}
 
@@ -21,3 +21,8 @@ pub record AreFlat (table : Table) (frame : FrameView) (registers : List ℕ) (l
   pub legal : All (AreLegal table) frame.values
   pub within : All (λ r. r < length frame.values) registers
   pub flat : All (IsFlat table frame lane) registers
+
+-- what the first of the registers shows, where there is one
+pub record ShowsFirst (table : Table) (frame : FrameView) (registers : List ℕ) (lane : ℕ) (first : Shown) : Type 0 where
+  pub legal : IsLegal table first
+  pub value : (r : ℕ) → Some r ≡ slice_get registers 0 → value_under table first ≡ value_at (state_at table frame lane) r

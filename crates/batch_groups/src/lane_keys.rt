@@ -7,12 +7,14 @@ ghost use Rattle.lane_base.specs.Registers.{AreLegal};
 ghost use Rattle.agg_meaning.specs.Keys.{same_keys};
 ghost use Rattle.key_places.specs.Hashes.{fed_vals};
 ghost use Rattle.snel_values.specs.View.{views};
-ghost use Rattle.batch_groups.specs.Flat.{values_in, IsFlat, AreFlat};
+ghost use Rattle.lane_base.specs.Registers.{seen};
+ghost use Rattle.batch_groups.specs.Flat.{values_in, IsFlat, AreFlat, ShowsFirst};
 
 use crate::looks::{feed_look, is_tree, same_look};
 use block_lines::values_of;
 use hash_agg::RowKeys;
 use ion_symtab::SymTab;
+use lane_base::Look;
 use lane_ssa::{Frame, Registers};
 use snel_values::{Items, OutOfMemory, Value};
 use std::alloc::Global;
@@ -26,6 +28,8 @@ pub(crate) struct LaneKeys<'a, 'b> {
     table: &'a SymTab<'b>,
     registers: &'a Registers,
     lane: u32,
+    /// What the first of them shows, since most groups have one key.
+    first: Look<'b>,
 }
 
 impl<'a, 'b> Model for LaneKeys<'a, 'b> {
@@ -33,7 +37,8 @@ impl<'a, 'b> Model for LaneKeys<'a, 'b> {
     ghost use Rattle.value_meaning.specs.Val.{Val};
     ghost use Rattle.value_meaning.specs.Code.{coded_val};
     ghost use Rattle.std.specs.Coded.{coded_list};
-    ghost use Rattle.batch_groups.specs.Flat.{values_in, AreFlat};
+    ghost use Rattle.lane_base.specs.Registers.{seen};
+    ghost use Rattle.batch_groups.specs.Flat.{values_in, AreFlat, ShowsFirst};
 
     ghost Value = { List Val };
 
@@ -41,7 +46,7 @@ impl<'a, 'b> Model for LaneKeys<'a, 'b> {
 
     ghost view = { λ k. values_in k.table.now k.frame.now k.registers.now k.lane };
 
-    ghost invariant = { λ k. AreFlat k.table.now k.frame.now k.registers.now k.lane };
+    ghost invariant = { λ k. AreFlat k.table.now k.frame.now k.registers.now k.lane × ShowsFirst k.table.now k.frame.now k.registers.now k.lane (seen k.first) };
 }
 
 impl<'a, 'b> LaneKeys<'a, 'b> {
@@ -63,6 +68,7 @@ impl<'a, 'b> LaneKeys<'a, 'b> {
             table,
             registers,
             lane,
+            first: first_look(frame, registers, lane),
         }
     }
 }
@@ -77,11 +83,29 @@ impl<'a, 'b> RowKeys for LaneKeys<'a, 'b> {
     }
 
     fn are(&self, keys: &[Value]) -> bool {
-        are_keys(self.frame, self.registers, self.lane, keys)
+        if self.registers.len() == 1 && keys.len() == 1 {
+            same_look(self.first, &keys[0])
+        } else {
+            are_keys(self.frame, self.registers, self.lane, keys)
+        }
     }
 
     fn build(&self, alloc: Global) -> Result<Items, OutOfMemory> {
         values_of(alloc, self.frame, self.table, self.registers, self.lane)
+    }
+}
+
+/// What the first of the registers shows in the lane, MISSING where there is none.
+#[inline(always)]
+fn first_look<'b>(frame: &Frame<'b>, registers: &Registers, lane: u32) -> Look<'b>
+    requires lane { lane < 16 }
+    requires registers { All (λ r. r < length frame.now.values) registers.now }
+    ensures { (table : Table) → All (AreLegal table) frame.now.values
+        → ShowsFirst table frame.now registers.now lane (seen result) }
+{
+    match registers.get(0) {
+        Some(register) => frame.lane(register, lane),
+        None => Look::Missing,
     }
 }
 

@@ -1,8 +1,9 @@
-//! The lines of the blocks of a batch, as a job makes them: [`JobScanner`] is what a scan of batches scans with:
-//! `scan_all(alloc, &mut JobScanner::new(alloc, query, job)?, ..)`.
+//! The lines of a plain query's blocks, batch after batch: [`scan_all`] reads the blocks, 64 at a time, has workers make their lines,
+//! and puts these before it reads on: `scan_all(&rt, alloc, &gate, 4, &query, &job, &heads, &cut, &names, &found.fields,
+//! &found.places, &mut files, &mut out, &mut ran)?`.
 #![tactic(auto)]
 
-mod blocks;
-mod scanner;
+mod put;
+mod scan;
 
-pub use scanner::JobScanner;
+pub use scan::scan_all;

@@ -16,6 +16,8 @@ const SORTED: &str = "SELECT a FROM logs ORDER BY a";
 
 const ALL: &str = "SELECT * FROM logs";
 
+const SOME: &str = "SELECT * FROM logs LIMIT 2 OFFSET 1";
+
 // So many turns are enough for all threads to come.
 const TURNS: u64 = 100_000_000;
 
@@ -88,24 +90,29 @@ fn ends_under<R: Threads + Sync + RandomSource + AllocGlobal, G: Gate + Sync>(
     Ok(ended == status && lines.bytes() == out && told.bytes() == err.as_bytes())
 }
 
-// Each claim in turn is held back until the others have come: the other worker draws them.
+// Each claim in turn is held back until the others have come: the other worker draws them. Lines of a query that doesn't sort stand in
+// the order of the blocks.
 #[test]
 fn a_worker_that_is_held_keeps_no_block_from_the_other(rt: HostRuntime) -> Result<(), Fail> {
     let file = numbered(rt.alloc(), 3, &[])?;
-    let answer = b"{\"a\":0,\"n\":1}\n{\"a\":1,\"n\":1}\n{\"a\":2,\"n\":1}\n";
-    for held in 0u32..3 {
-        let gate = HoldingGate {
-            held,
-            all: 3,
-            come: AtomicU64::new(0),
-            late: AtomicU64::new(0),
-        };
-        let words = ["query", "--workers", "2", GROUPED, "p"];
-        assert!(rt;
-            ends_under(&rt, &gate, &words, &file, (0, answer, ""))?,
-            "{held}"
-        );
-        assert_eq!(rt; gate.late.load(SeqCst), 0);
+    let groups = b"{\"a\":0,\"n\":1}\n{\"a\":1,\"n\":1}\n{\"a\":2,\"n\":1}\n".as_slice();
+    let rows = b"{\"a\":0}\n{\"a\":1}\n{\"a\":2}\n".as_slice();
+    let some = b"{\"a\":1}\n{\"a\":2}\n".as_slice();
+    for (sql, answer) in [(GROUPED, groups), (ALL, rows), (SOME, some)] {
+        for held in 0u32..3 {
+            let gate = HoldingGate {
+                held,
+                all: 3,
+                come: AtomicU64::new(0),
+                late: AtomicU64::new(0),
+            };
+            let words = ["query", "--workers", "2", sql, "p"];
+            assert!(rt;
+                ends_under(&rt, &gate, &words, &file, (0, answer, ""))?,
+                "{held} {sql}"
+            );
+            assert_eq!(rt; gate.late.load(SeqCst), 0);
+        }
     }
     Ok(())
 }
@@ -124,21 +131,26 @@ fn the_first_bad_block_is_named(rt: HostRuntime) -> Result<(), Fail> {
             );
         }
     }
-    for held in 0u32..6 {
-        let gate = HoldingGate {
-            held,
-            all: 4,
-            come: AtomicU64::new(0),
-            late: AtomicU64::new(0),
-        };
-        let words = ["query", "--workers", "2", GROUPED, "p"];
-        assert!(rt; ends_under(&rt, &gate, &words, &file, named)?, "{held}");
+    for sql in [GROUPED, ALL, SOME] {
+        for held in 0u32..6 {
+            let gate = HoldingGate {
+                held,
+                all: 4,
+                come: AtomicU64::new(0),
+                late: AtomicU64::new(0),
+            };
+            let words = ["query", "--workers", "2", sql, "p"];
+            assert!(rt;
+                ends_under(&rt, &gate, &words, &file, named)?,
+                "{held} {sql}"
+            );
+        }
     }
     Ok(())
 }
 
-// The lines of the rows of so many blocks, sorted.
-fn sorted_lines(alloc: Global, count: u8) -> Result<String, AllocError> {
+// The lines of the rows of so many blocks, in order.
+fn ordered_lines(alloc: Global, count: u8) -> Result<String, AllocError> {
     let mut lines = String::new(alloc);
     for number in 0..count {
         let line = format!(in alloc; "{{\"a\":{number}}}\n")?;
@@ -152,14 +164,31 @@ fn sorted_lines(alloc: Global, count: u8) -> Result<String, AllocError> {
 fn any_number_of_workers_scans_any_number_of_blocks(rt: HostRuntime) -> Result<(), Fail> {
     for count in [1u8, 2, 64, 65] {
         let file = numbered(rt.alloc(), count, &[])?;
-        let lines = sorted_lines(rt.alloc(), count)?;
+        let lines = ordered_lines(rt.alloc(), count)?;
         for workers in ["1", "2", "64"] {
-            let words = ["query", "--workers", workers, SORTED, "p"];
-            assert!(rt;
-                ends_under(&rt, &OpenGate, &words, &file, (0, lines.as_bytes(), ""))?,
-                "{count} {workers}"
-            );
+            for sql in [SORTED, ALL] {
+                let words = ["query", "--workers", workers, sql, "p"];
+                assert!(rt;
+                    ends_under(&rt, &OpenGate, &words, &file, (0, lines.as_bytes(), ""))?,
+                    "{count} {workers} {sql}"
+                );
+            }
         }
+    }
+    Ok(())
+}
+
+// A LIMIT that is full within a batch lets no line of a later block through, and a later batch isn't read: its bad block isn't met.
+#[test]
+fn a_limit_holds_for_any_number_of_workers(rt: HostRuntime) -> Result<(), Fail> {
+    let file = numbered(rt.alloc(), 66, &[65])?;
+    let lines = b"{\"a\":1}\n{\"a\":2}\n".as_slice();
+    for workers in ["1", "2", "8", "64"] {
+        let words = ["query", "--workers", workers, SOME, "p"];
+        assert!(rt;
+            ends_under(&rt, &OpenGate, &words, &file, (0, lines, ""))?,
+            "{workers}"
+        );
     }
     Ok(())
 }

@@ -3,11 +3,13 @@ pub mod Bounds
 pub mod Checks
 pub mod Going
 pub mod Moments
+pub mod RealDays
 pub mod PairSteps
 pub mod Parts
 pub mod Payloads
 pub mod ShortNumbers
 pub mod ShortTimes
+pub mod ShortCells
 pub mod Signed
 pub mod Stands
 pub mod Symbols
@@ -16,3 +18,5 @@ pub mod Openings
 pub mod Holding
 pub mod Wholes
 pub mod Denoting
+pub mod PairFronts
+pub mod Finding

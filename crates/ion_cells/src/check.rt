@@ -1,4 +1,4 @@
-ghost use Rattle.std.specs.Prelude.{◌≡◌, ◌+◌, ◌-◌, ◌<◌, ◌≤◌, ◌^◌, length, drop, take, is_some, IfSome};
+ghost use Rattle.std.specs.Prelude.{◌≡◌, ◌↔◌, ◌+◌, ◌-◌, ◌<◌, ◌≤◌, ◌^◌, IsTrue, length, drop, take, is_some, IfSome};
 ghost use Rattle.std.specs.Option.{option_map};
 ghost use Rattle.block_meaning.specs.CellReading.{cell_to, cells_by, pairs_by, blank_table};
 ghost use Rattle.ion_cells.specs.Steps.{payload_to, pair_by};
@@ -7,6 +7,14 @@ use crate::heads::head;
 use crate::numbers::var_uint;
 use crate::scalars::{is_one_byte, is_scalar, is_symbol};
 use crate::types::{LIST, STRUCT};
+
+/// Whether the byte begins a whole number of at most seven bytes, which each such number of bytes is.
+#[inline(always)]
+fn is_short_whole(first: u8) -> bool
+    ensures { IsTrue result ↔ (32 ≤ first) × (first ≤ 39) }
+{
+    (0x20..=0x27).contains(&first)
+}
 
 /// The place after the cell that begins at the place `at`, within which lists and structs may stand `room` deep. The
 /// last number of the table is `last`.
@@ -21,7 +29,12 @@ pub(crate) fn check_to(bytes: &[u8], at: usize, last: u32, room: u8) -> Option<u
     if at >= bytes.len() {
         return None;
     }
-    if is_one_byte(bytes[at]) {
+    let first = bytes[at];
+    if is_short_whole(first) {
+        let end = at + 1 + usize::from(first % 16);
+        return if end <= bytes.len() { Some(end) } else { None };
+    }
+    if is_one_byte(first) {
         return Some(at + 1);
     }
     let head = head(bytes, at)?;

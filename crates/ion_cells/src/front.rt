@@ -20,7 +20,7 @@ pub(crate) struct Front {
 
 /// Whether the length of the content stands in this first byte, and the byte isn't the whole of a cell.
 #[inline(always)]
-fn is_short(first: u8) -> bool
+pub(crate) fn is_short(first: u8) -> bool
     ensures { result ≡ tags.is_short first }
 {
     first >= 0x20 && first % 16 < 14 && first != STRUCT_IN_ORDER

@@ -2,6 +2,7 @@ ghost use Rattle.std.specs.Prelude.{◌≡◌, true};
 ghost use Rattle.ion_cells.specs.Left.{are_items, are_fields};
 
 use crate::cell::Cell;
+use crate::find::find_label;
 use crate::fronts::{first_field, first_item};
 
 /// The cells of a list, in order.
@@ -62,6 +63,7 @@ impl<'b> Fields<'b> {
     ghost use Rattle.block_meaning.specs.Tables.{Table};
     ghost use Rattle.ion_cells.specs.Left.{pairs_of};
     ghost use Rattle.ion_cells.specs.Iterating.{fields_last, pairs_left};
+    ghost use Rattle.ion_cells.specs.Finding.{FindsPair};
 
     /// The pairs that the bytes are, whose labels rise from 10 on.
     #[tactic(auto, unfolding(crate::specs::Iterating::fields_last, crate::specs::Iterating::pairs_left))]
@@ -75,6 +77,16 @@ impl<'b> Fields<'b> {
             last,
             low: 10,
         }
+    }
+
+    /// The cell of the pair with the label, if there is one among the pairs that are left. Labels rise, so that the walk
+    /// ends at the first that isn't below it.
+    #[inline(always)]
+    #[tactic(auto, unfolding(crate::specs::Iterating::fields_last, crate::specs::Iterating::pairs_left))]
+    pub fn find(self, label: u32) -> Option<Cell<'b>>
+        ensures { FindsPair (fields_last self.entry) (λ table. pairs_left table self.entry) label result }
+    {
+        find_label(self.rest, self.last, self.low, label)
     }
 }
 

@@ -4,6 +4,7 @@
 mod cell;
 mod check;
 mod content;
+mod find;
 mod front;
 mod fronts;
 mod heads;

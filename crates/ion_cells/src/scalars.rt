@@ -4,7 +4,7 @@ ghost use Rattle.block_meaning.specs.Tables.{text_of};
 ghost use Rattle.block_meaning.specs.CellReading.{one_byte, scalar, whole, blank_table};
 
 use crate::numbers::magnitude;
-use crate::times::micros_of;
+use crate::times::is_timestamp;
 use crate::types::{FALSE, NEGATIVE, STRING, SYMBOL, TIMESTAMP, TRUE, WHOLE};
 use simdutf8::basic;
 
@@ -56,7 +56,7 @@ pub(crate) fn is_scalar(kind: u8, payload: &[u8], last: u32) -> bool
     match kind {
         WHOLE => is_whole(payload),
         NEGATIVE => payload.len() <= 8 && matches!(magnitude(payload), 1..=0x8000_0000_0000_0000),
-        TIMESTAMP => micros_of(payload).is_some(),
+        TIMESTAMP => is_timestamp(payload),
         SYMBOL => payload.len() <= 4 && is_symbol(magnitude(payload), last),
         STRING => is_text(payload),
         _ => false,

@@ -1,4 +1,4 @@
-ghost use Rattle.std.specs.Prelude.{◌≡◌, ◌+◌, ◌-◌, ◌*◌, ◌<◌, ◌≤◌, ◌^◌, pos, length, IfSome};
+ghost use Rattle.std.specs.Prelude.{◌≡◌, ◌+◌, ◌-◌, ◌*◌, ◌<◌, ◌≤◌, ◌^◌, pos, length, is_some, IfSome};
 ghost use Rattle.std.specs.Option.{option_map};
 ghost use Rattle.block_meaning.specs.Timestamps as spec;
 
@@ -138,6 +138,39 @@ pub(crate) fn micros_of(payload: &[u8]) -> Option<i64>
         }
     }
     micros_by_parts(payload)
+}
+
+/// Whether the payload is that of a timestamp. The calendar isn't asked for the first 28 days of a month.
+#[inline(never)]
+pub(crate) fn is_timestamp(payload: &[u8]) -> bool
+    ensures { result ≡ is_some (spec.timestamp payload.now) }
+{
+    if payload.len() == 8 && payload[0] == 0x80 {
+        let century = payload[1];
+        let year = payload[2];
+        let month = payload[3];
+        let day = payload[4];
+        let hour = payload[5];
+        let minute = payload[6];
+        let second = payload[7];
+        if 1 <= century
+            && century <= 77
+            && year >= 128
+            && 129 <= month
+            && month <= 140
+            && 129 <= day
+            && day <= 156
+            && 128 <= hour
+            && hour <= 151
+            && 128 <= minute
+            && minute <= 187
+            && 128 <= second
+            && second <= 187
+        {
+            return true;
+        }
+    }
+    micros_of(payload).is_some()
 }
 
 /// The same, field by field.

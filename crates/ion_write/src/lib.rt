@@ -22,6 +22,3 @@ pub use standing::writable;
 pub use table::Table;
 pub use weighing::weight;
 pub use writing::put_value;
-
-#[cfg(test)]
-mod tests;

@@ -9,8 +9,6 @@ mod lanes;
 mod logic;
 mod mask;
 mod merge;
-#[cfg(test)]
-mod tests;
 
 pub use constant::const16;
 pub use lanes::{IntLanes, Lanes, Look, SpanLanes};

@@ -8,8 +8,6 @@ mod cast;
 mod math;
 mod numbers;
 mod spelled;
-#[cfg(test)]
-mod tests;
 
 pub use cast::cast16;
 pub use math::{math16, neg16};

@@ -7,8 +7,6 @@
 mod compare;
 mod numbers;
 mod strict;
-#[cfg(test)]
-mod tests;
 mod texts;
 mod truths;
 

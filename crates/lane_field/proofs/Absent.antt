@@ -14,7 +14,7 @@ use Rattle.lane_base.specs.Bits.{has}
 use Rattle.lane_base.specs.Shown.{Shown, Missing, Null, Truth, Int, Time, Text, Tree, value_under, IsLegal}
 use Rattle.lane_base.specs.Registers.{value_at, under, AreLegalIn}
 use Rattle.lane_field.specs.Steps.{IsNumberOf}
-use Rattle.lane_field.proofs.Names.{none_in}
+use Rattle.ion_cells.proofs.Finding.{none_in}
 
 pub numbered : (table : Table) (n : List ℕ) (s : Option ℕ) (k : ℕ) → s ≡ Some k → IsNumberOf table n s → text_of table k ≡ Some n
 numbered table n s k e h = let P : Option ℕ → Type 0 = λ o. IsNumberOf table n o in subst P e h

@@ -1,7 +1,6 @@
 pub mod Absent
 pub mod KindOf
 pub mod Longer
-pub mod Names
 pub mod Nested
 pub mod Numbers
 pub mod OwnTables

@@ -1,5 +1,5 @@
 -- The parts of a cell of a table are cells of the table, and which values they have.
-use Rattle.std.proofs.Common.{◌≡◌, ℕ, suc, ◌+◌, ◌-◌, ◌<◌, ◌≤◌, true, List, [], ◌++◌, length, Option, Some, None, refl, sym, ap, subst, ◌∙◌, arith}
+use Rattle.std.proofs.Common.{◌≡◌, ℕ, suc, ◌+◌, ◌-◌, ◌<◌, ◌≤◌, true, List, [], ◌∷◌, ◌++◌, length, Option, Some, None, refl, sym, ap, subst, ◌∙◌, arith}
 use Rattle.std.specs.Prelude.{replicate, IfSome, unwrap_or, slice_get}
 use Rattle.std.specs.Option.{option_map}
 use Rattle.std.proofs.lemmas.List.{append-nil, length-replicate}
@@ -18,11 +18,13 @@ use Rattle.ion_cells.specs.declared.iterators.Fields.{Fields as Left}
 use Rattle.ion_cells.specs.Standing.{HasLast}
 use Rattle.ion_cells.specs.Shown.{cell_bytes, cell_last, shown, Fits}
 use Rattle.ion_cells.specs.Values.{items_in, pairs_in}
+use Rattle.ion_cells.specs.Left.{named}
 use Rattle.ion_cells.specs.Iterating.{items_last, values_left, fields_last, pairs_left}
 use Rattle.ion_cells.proofs.Stands.{legal_stands}
 use Rattle.lane_field.specs.CellsOf.{IsCellOf, denoted}
 use Rattle.lane_field.specs.Longest.{longest, vals_longest, fields_longest}
-use Rattle.lane_field.specs.Walking.{IsOnlyNumber, GivesItem, GivesPair}
+use Rattle.ion_cells.specs.Finding.{IsLabelOf, StandsIn, FindsPair}
+use Rattle.lane_field.specs.Walking.{GivesItem}
 use Rattle.lane_field.specs.Steps.{IsNamed}
 use Rattle.lane_field.proofs.Longer.{longer_is, longer_text, read_alone}
 use Rattle.lane_field.proofs.Shorter.{shorter_cell, shorter_text}
@@ -166,8 +168,20 @@ last_along : (r : Option Cell) (m n : ℕ) → m ≡ n → IfSome r (λ item. ce
 last_along None m n e h = tt
 last_along (Some item) m n e h = h ∙ e
 
+-- a value within pairs has no longer text than they have
+within_pairs : (p : List ℕ × Val) (before after : List (List ℕ × Val)) → longest p.1 ≤ fields_longest (fields (before ++ p ∷ after))
+within_pairs p [] after = omega arith
+within_pairs p (q ∷ before) after = let less = within_pairs p before after in omega arith
+
+stand_within : (table : Table) (label : ℕ) (ps : Left) (r : Option Cell) → IfSome r (λ cell. StandsIn (named table label (shown table cell)) (pairs_left table ps)) → IfSome r (λ cell. longest (shown table cell) ≤ fields_longest (fields (pairs_left table ps)))
+stand_within table label ps None s = tt
+stand_within table label ps (Some cell) s =
+    let less = within_pairs (named table label (shown table cell)) s.before s.after in
+    let same : fields_longest (fields (pairs_left table ps)) ≡ fields_longest (fields (s.before ++ named table label (shown table cell) ∷ s.after)) = ap (λ (qs : List (List ℕ × Val)). fields_longest (fields qs)) s.split in
+    omega (arith, less, same)
+
 -- the value of a pair
-module _ (table : Table) (cell : Cell) (h : IsCellOf table cell) (ps : Left) (label : ℕ) (r : Option Cell) (g : GivesPair ps label r) (p : (t : Table) → Fits t cell → Some (pairs_left t ps) ≡ pairs_in (shown t cell)) (l : fields_last ps ≡ cell_last cell) where
+module _ (table : Table) (cell : Cell) (h : IsCellOf table cell) (ps : Left) (label : ℕ) (r : Option Cell) (g : FindsPair (fields_last ps) (λ t. pairs_left t ps) label r) (p : (t : Table) → Fits t cell → Some (pairs_left t ps) ≡ pairs_in (shown t cell)) (l : fields_last ps ≡ cell_last cell) where
   module _ (j : ℕ) (long : longest (shown table cell) ≤ j) where
     broad : Table
     broad = wide table cell h j long
@@ -182,16 +196,16 @@ module _ (table : Table) (cell : Cell) (h : IsCellOf table cell) (ps : Left) (la
     pair_whole : IfSome r (IsCellOf table) × (denoted table r ≡ unwrap_or (option_map (shown broad) r) missing)
     unfolding broad
     pair_whole =
-        whole_of table cell h j long r (last_along r (fields_last ps) (cell_last cell) l g.last) (at_most (λ item. longest (shown (wide table cell h j long) item)) r _ _ (pairs_long _ _ (p (wide table cell h j long) (wide_fits table cell h j long))) (g.within (wide table cell h j long) left_fits))
+        whole_of table cell h j long r (last_along r (fields_last ps) (cell_last cell) l g.fits) (at_most (λ item. longest (shown (wide table cell h j long) item)) r _ _ (pairs_long _ _ (p (wide table cell h j long) (wide_fits table cell h j long))) (stand_within (wide table cell h j long) label ps r (g.stands (wide table cell h j long) left_fits)))
 
     pairs_are : Some (pairs_left broad ps) ≡ pairs_in (shown table cell)
     unfolding broad
     pairs_are = p (wide table cell h j long) (wide_fits table cell h j long) ∙ ap pairs_in (wide_same table cell h j long)
 
-    only_number : (n : List ℕ) → length n < j → IsNamed label n table → IsOnlyNumber broad n label
+    label_is : (n : List ℕ) → length n < j → IsNamed label n table → IsLabelOf broad n label
     unfolding broad
-    only_number n less named = record {
-      is = longer_text table _ label n named.names;
+    label_is n less named = record {
+      is = λ _. longer_text table _ label n named.names;
       only = λ k e. one_number table k label n named.rise (shorter_text table _ k _ n (omega (arith, less, filler_size table cell h j long)) e) named.names;
     }
 
@@ -203,7 +217,7 @@ module _ (table : Table) (cell : Cell) (h : IsCellOf table cell) (ps : Left) (la
       let j = longest (shown table cell) + suc (length n) in
       let long : longest (shown table cell) ≤ j = omega arith in
       (pair_whole j long).1
-      ∙ find_step n (shown table cell) (pairs_left (broad j long) ps) (option_map (shown (broad j long)) r) (pairs_are j long) (g.value (broad j long) (left_fits j long) n (only_number j long n (omega arith) named))
+      ∙ find_step n (shown table cell) (pairs_left (broad j long) ps) (option_map (shown (broad j long)) r) (pairs_are j long) (g.value (broad j long) (left_fits j long) n (label_is j long n (omega arith) named))
 
 -- an item
 module _ (table : Table) (cell : Cell) (h : IsCellOf table cell) (vs : Cells) (k : ℕ) (r : Option Cell) (g : GivesItem vs k r) (p : (t : Table) → Fits t cell → Some (values_left t vs) ≡ items_in (shown t cell)) (l : items_last vs ≡ cell_last cell) where

@@ -1,4 +1,4 @@
--- What a walk over the members of a list or a struct finds.
+-- What a walk over the items of a list finds.
 use Rattle.std.specs.Prelude.{◌≡◌, ◌≤◌, ℕ, List, Option, Some, IfSome, slice_get}
 use Rattle.std.specs.Option.{option_map}
 use Rattle.value_meaning.specs.Val.{vals, fields}
@@ -12,20 +12,8 @@ use Rattle.ion_cells.specs.Standing.{HasLast}
 use Rattle.ion_cells.specs.Iterating.{items_last, values_left, fields_last, pairs_left}
 use Rattle.lane_field.specs.Longest.{longest, vals_longest, fields_longest}
 
--- the number is the name's, and no other is
-pub record IsOnlyNumber (table : Table) (name : List ℕ) (number : ℕ) : Type 0 where
-  pub is : text_of table number ≡ Some name
-  pub only : (k : ℕ) → text_of table k ≡ Some name → k ≡ number
-
 -- The item at the place, counted from 0, if there is one.
 pub record GivesItem (items : Cells) (at : ℕ) (r : Option Cell) : Type 0 where
   pub last : IfSome r (λ cell. cell_last cell ≡ items_last items)
   pub within : (table : Table) → HasLast table (items_last items) → IfSome r (λ cell. longest (shown table cell) ≤ vals_longest (vals (values_left table items)))
   pub value : (table : Table) → HasLast table (items_last items) → option_map (shown table) r ≡ slice_get (values_left table items) at
-
--- The value of the pair with that label, if there is one.
-pub record GivesPair (pairs : Fields) (label : ℕ) (r : Option Cell) : Type 0 where
-  pub last : IfSome r (λ cell. cell_last cell ≡ fields_last pairs)
-  pub within : (table : Table) → HasLast table (fields_last pairs) → IfSome r (λ cell. longest (shown table cell) ≤ fields_longest (fields (pairs_left table pairs)))
-  pub value : (table : Table) → HasLast table (fields_last pairs) → (name : List ℕ) → IsOnlyNumber table name label
-      → option_map (shown table) r ≡ value_of name (pairs_left table pairs)

@@ -11,7 +11,6 @@ ghost use Rattle.lane_field.specs.CellsOf.{cell_in, no_cell, denoted, IsCellOf, 
 ghost use Rattle.lane_field.specs.Steps.{IsUnder, IsUnderOne, IsNamed, AreUnder, AreUnderOne, StepAt, FindsNames};
 
 use crate::cells::CellLanes;
-use crate::walks::labelled;
 use ion_cells::Cell;
 use lane_base::{LaneMask, Lanes, Look};
 
@@ -43,7 +42,7 @@ fn field_of<'b>(bytes: &'b [u8], label: u32) -> Option<Cell<'b>>
 {
     let cell = whole(bytes);
     match cell.fields() {
-        Some(pairs) => labelled(pairs, label),
+        Some(pairs) => pairs.find(label),
         None => None,
     }
 }

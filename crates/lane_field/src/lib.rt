@@ -12,8 +12,6 @@ mod kinds;
 mod load;
 mod masks;
 mod scalars;
-#[cfg(test)]
-mod tests;
 mod walks;
 
 pub use cells::CellLanes;

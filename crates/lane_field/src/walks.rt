@@ -1,8 +1,8 @@
-//! Walks over the members of one list or struct.
+//! Walks over the items of one list.
 
-ghost use Rattle.lane_field.specs.Walking.{GivesItem, GivesPair};
+ghost use Rattle.lane_field.specs.Walking.{GivesItem};
 
-use ion_cells::{Cell, Cells, Fields};
+use ion_cells::{Cell, Cells};
 
 /// The item at the place, counted from 0. None where there are no more than so many.
 #[inline(always)]
@@ -15,23 +15,6 @@ pub(crate) fn nth_item<'b>(items: Cells<'b>, at: u32) -> Option<Cell<'b>>
             return Some(item);
         }
         left -= 1;
-    }
-    None
-}
-
-/// The value of the pair with the label. Labels rise, so that the walk ends at the first that isn't below it. None where no
-/// pair has it.
-#[inline(always)]
-pub(crate) fn labelled<'b>(pairs: Fields<'b>, label: u32) -> Option<Cell<'b>>
-    ensures { GivesPair pairs.entry label result }
-{
-    for (next, cell) in pairs {
-        if next == label {
-            return Some(cell);
-        }
-        if next > label {
-            return None;
-        }
     }
     None
 }

@@ -19,8 +19,6 @@ mod path;
 mod rows;
 mod run;
 mod tally;
-#[cfg(test)]
-mod tests;
 
 pub use ends::{EndAgg, EndAggs, EndOut, EndOuts, Ends, Registers};
 pub use frame::Frame;

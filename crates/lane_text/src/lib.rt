@@ -16,8 +16,6 @@ mod pattern;
 mod piece;
 mod pieces;
 mod scan;
-#[cfg(test)]
-mod tests;
 
 ghost use Rattle.lane_text.specs.PieceLaws.{GreedyIsExact};
 

@@ -8,8 +8,6 @@ mod dates;
 mod each;
 mod extract;
 mod shift;
-#[cfg(test)]
-mod tests;
 mod trunc;
 mod unix;
 

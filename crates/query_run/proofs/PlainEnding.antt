@@ -27,7 +27,7 @@ use Rattle.scan_batches.specs.Lines.{made_lines}
 use Rattle.scan_batches.proofs.Texts.{made_long}
 use Rattle.scan_batches.specs.Scans.{IsNumbered}
 use Rattle.scan_batches.specs.Outcome.{ScansTo, Finished}
-use Rattle.scan_batches.specs.declared.scan.Done.{Done}
+use Rattle.scan_batches.specs.declared.done.Done.{Done}
 use Rattle.scan_batches.specs.declared.fault.ScanFault.{ScanFault}
 use Rattle.scan_batches.specs.declared.fault.ScanFault.TheVariants as stops
 use Rattle.query_run.specs.Statuses.{status_of}

@@ -14,18 +14,21 @@ ghost use Rattle.query_run.specs.Statuses.{IsAbsent};
 use crate::query_fault::QueryFault;
 use crate::settings::Settings;
 use crate::sum::QuerySum;
-use batch_lines::JobScanner;
-use lane_ssa::Job;
+use batch_lines::scan_all;
+use block_lines::LineHeads;
+use lane_ssa::{Job, Tally};
 use query_tree::Query;
-use scan_batches::{Cut, ScanFault, scan_all};
+use scan_batches::{Cut, ScanFault};
 use scan_files::Survey;
-use snel_device::{Files, Out};
+use snel_device::{Files, Gate, Out};
 use snel_values::Words;
 use std::alloc::Global;
+use std::thread::Threads;
 
 /// Answers a query that neither groups nor sorts, of whose files the indexes were read: the lines of 64 blocks are put before
 /// the next are read.
-pub(crate) fn run_plain<F: Files, O: Out>(
+pub(crate) fn run_plain<R: Threads + Sync, F: Files, O: Out, G: Gate + Sync>(
+    rt: &R,
     alloc: Global,
     query: &Query,
     job: &Job,
@@ -34,8 +37,11 @@ pub(crate) fn run_plain<F: Files, O: Out>(
     found: &Survey,
     files: &mut F,
     out: &mut O,
+    gate: &G,
 ) -> Result<QuerySum, QueryFault>
     requires some { 1 ≤ length names.now }
+    requires some_workers { 0 < settings.now.workers }
+    requires few_workers { settings.now.workers ≤ 64 }
     requires simulates { Simulates job.now (query_view query.now) }
     requires plain { is_plain (query_view query.now) ≡ true }
     requires surveyed { ForSome (F.told files.old) (λ told. Surveys (query_view query.now) names.now
@@ -56,28 +62,35 @@ pub(crate) fn run_plain<F: Files, O: Out>(
     ensures same_misses { F.misses files.new ≡ F.misses files.old }
     ensures same_write_faults { F.write_faults files.new ≡ F.write_faults files.old }
 {
-    let Ok(mut scanner) = JobScanner::new(alloc, query, job) else {
+    let Ok(heads) = LineHeads::of(alloc, job) else {
         return Err(QueryFault::OutOfMemory);
     };
     let cut = Cut {
         skip: query.skip,
         take: query.take,
     };
+    let mut ran = Tally::none();
     match scan_all(
+        rt,
         alloc,
-        &mut scanner,
+        gate,
+        settings.workers,
+        query,
+        job,
+        &heads,
         &cut,
         names,
         &found.fields,
         &found.places,
         files,
         out,
+        &mut ran,
     ) {
         Ok(done) => Ok(QuerySum {
             lines: done.lines,
             read: done.read,
             skipped: found.skipped,
-            ran: scanner.into_tally(),
+            ran,
         }),
         Err(fault) => Err(of_scan(fault)),
     }

@@ -167,6 +167,7 @@ fn run_found<R: Threads + Sync + RandomSource, F: Files, O: Out, G: Gate + Sync>
         )
     } else if checked.query().order.len() == 0 {
         run_plain(
+            rt,
             alloc,
             checked.query(),
             job,
@@ -175,6 +176,7 @@ fn run_found<R: Threads + Sync + RandomSource, F: Files, O: Out, G: Gate + Sync>
             found,
             files,
             out,
+            gate,
         )
     } else {
         run_sorted(

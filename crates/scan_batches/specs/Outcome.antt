@@ -6,7 +6,7 @@ use Rattle.scan_meaning.specs.Batches.{rows_of, first_bad, front, count_passed, 
 use Rattle.scan_meaning.specs.Answers.{AddsAnswer, AddsWhole, StopsAt, StopsReading, StopsPutting}
 use Rattle.scan_batches.specs.Lines.{made_lines, let_through}
 use Rattle.scan_batches.specs.Scans.{chunks_of, IsNumbered}
-use Rattle.scan_batches.specs.declared.scan.Done.{Done}
+use Rattle.scan_batches.specs.declared.done.Done.{Done}
 use Rattle.scan_batches.specs.declared.fault.ScanFault.{ScanFault}
 use Rattle.scan_batches.specs.declared.fault.ScanFault.TheVariants.{Damaged, ReadFault, WriteFault, OutOfMemory}
 

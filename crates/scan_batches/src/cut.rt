@@ -12,7 +12,7 @@ pub struct Cut {
 }
 
 /// Whether no line is let through any more.
-pub(crate) fn is_full(cut: &Cut) -> bool
+pub fn is_full(cut: &Cut) -> bool
     ensures dropped { result ≡ true → cut.now.skip ≡ 0 }
     ensures taken { result ≡ true → cut.now.take ≡ Some 0 }
     ensures open { result ≡ false → cut.now.skip ≡ 0 → cut.now.take ≢ Some 0 }
@@ -24,7 +24,7 @@ pub(crate) fn is_full(cut: &Cut) -> bool
 }
 
 /// What is left after so many lines.
-pub(crate) fn rest_of(cut: &Cut, count: usize) -> Cut
+pub fn rest_of(cut: &Cut, count: usize) -> Cut
     ensures skip { result.skip ≡ cut.now.skip - count }
     ensures take { result.take ≡ left_of cut.now.take (count - cut.now.skip) }
 {
@@ -40,7 +40,7 @@ pub(crate) fn rest_of(cut: &Cut, count: usize) -> Cut
 }
 
 /// From which to which of so many lines are let through; the second isn't.
-pub(crate) fn range_of(cut: &Cut, count: usize) -> (usize, usize)
+pub fn range_of(cut: &Cut, count: usize) -> (usize, usize)
     ensures order { result.0 ≤ result.1 }
     ensures bound { result.1 ≤ count }
     ensures cut { (lines : List (List ℕ)) → length lines ≡ count

@@ -1,3 +1,9 @@
+//! Faults of a scan.
+ghost use Rattle.std.specs.Prelude.{◌≡◌, ◌<◌, Some, length, slice_get};
+ghost use Rattle.scan_files.specs.Places.{Held};
+
+use scan_files::Stored;
+
 /// Why the blocks of a batch weren't scanned.
 #[derive(Clone, Copy)]
 pub enum BatchFault {
@@ -23,4 +29,18 @@ pub enum ScanFault {
     WriteFault,
     /// There was no memory.
     OutOfMemory,
+}
+
+/// Names the block with this number.
+pub fn name_bad(blocks: &[Stored], number: usize) -> ScanFault
+    requires { number < length blocks.now }
+    ensures { (h : Held) → slice_get blocks.now number ≡ Some h
+        → result ≡ ScanFault.Damaged h.place.file h.place.block }
+{
+    let block = &blocks[number];
+    let place = block.place;
+    ScanFault::Damaged {
+        file: place.file,
+        block: place.block,
+    }
 }

@@ -1,16 +1,13 @@
-//! The blocks of a query, 64 at a time: [`scan_all`] reads the next of them, has a [`BatchScanner`] make their lines, and puts
-//! these before it reads on: `scan_all(alloc, &mut scanner, &cut, &names, &found.fields, &found.places, &mut files, &mut out)?`.
-//! [`put_rows`] puts the lines of rows that were gathered.
+//! What scans of a query's blocks share: OFFSET and LIMIT as a [`Cut`], why a scan stops as a [`ScanFault`], and what it did as
+//! [`Done`]. [`put_rows`] puts the lines of rows that were gathered: `put_rows(&rows, &mut out)?`.
 #![tactic(auto)]
 
 mod cut;
+mod done;
 mod fault;
 mod put;
-mod scan;
-mod scanner;
 
-pub use cut::Cut;
-pub use fault::{BatchFault, ScanFault};
+pub use cut::{Cut, is_full, range_of, rest_of};
+pub use done::Done;
+pub use fault::{BatchFault, ScanFault, name_bad};
 pub use put::put_rows;
-pub use scan::{Done, name_bad, scan_all};
-pub use scanner::BatchScanner;

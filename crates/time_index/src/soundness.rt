@@ -2,14 +2,14 @@ ghost use Rattle.std.specs.Prelude.{◌≡◌, ◌↔◌, ℕ, List, IsTrue, All
 ghost use Rattle.tree_meaning.specs.Tree.{name as by_name};
 ghost use Rattle.eval_meaning.specs.Paths.{step_of};
 ghost use Rattle.block_meaning.specs.Tables.{Table};
+ghost use Rattle.ion_cells.specs.Finding.{IsLabelOf};
 ghost use Rattle.ion_cells.specs.Shown.{Fits, shown};
 ghost use Rattle.ion_cells.specs.Values.{time_of};
 ghost use Rattle.range_meaning.specs.Excluded.{HoldsWithin, IsSoundEntry};
-ghost use Rattle.time_index.specs.Labels.{IsLabelOf, GivesPair};
 
 use crate::entry::Entry;
 use block_file::Block;
-use ion_cells::{Cell, Fields};
+use ion_cells::Cell;
 use ion_symtab::SymTab;
 
 // A number that no text has.
@@ -68,25 +68,10 @@ fn time_in(row: &Cell<'_>, label: u32) -> Option<i64>
         → result ≡ time_of (step_of (by_name name) (shown table row.now)) }
 {
     match row.fields() {
-        Some(pairs) => match labelled(pairs, label) {
+        Some(pairs) => match pairs.find(label) {
             Some(value) => value.micros(),
             None => None,
         },
         None => None,
     }
-}
-
-// The value of the pair with the label. Labels rise, so that the walk ends at the first that isn't below it.
-fn labelled<'b>(pairs: Fields<'b>, label: u32) -> Option<Cell<'b>>
-    ensures { GivesPair pairs.entry label result }
-{
-    for (next, value) in pairs {
-        if next == label {
-            return Some(value);
-        }
-        if next > label {
-            return None;
-        }
-    }
-    None
 }

@@ -7,6 +7,3 @@ mod times;
 
 pub use clock::{Clock, clock_at};
 pub use times::put_time;
-
-#[cfg(test)]
-mod tests;

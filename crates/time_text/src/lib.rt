@@ -265,35 +265,3 @@ pub fn read_time(text: &[u8]) -> Option<i64>
     let ahead = zone_at(rest)?;
     local_time(year, month, day, hour, minute, second, micros, ahead)
 }
-
-#[cfg(test)]
-mod tests {
-    use super::*;
-
-    #[test]
-    fn reads_times(rt: HostRuntime) {
-        for (text, want) in [
-            ("1970-01-01T00:00:00Z", Some(0i64)),
-            (
-                "2024-02-29 23:59:59.1234567+01:30",
-                Some(1_709_245_799_123_456),
-            ),
-            ("0000-12-31T23:59:59-00:01", Some(-62_135_596_741_000_000)),
-            ("0001-01-01t00:00:00z", Some(-62_135_596_800_000_000)),
-            ("0001-01-01T00:00:00+00:01", None),
-            (
-                "9999-12-31T23:59:59.999999999Z",
-                Some(253_402_300_799_999_999),
-            ),
-            ("2023-02-29T00:00:00Z", None),
-            ("2024-05-01T24:00:00Z", None),
-            ("2024-05-01T10:00:00.Z", None),
-            ("2024-05-01T10:00:00.1234567890Z", None),
-            ("2024-05-01T10:00:00", None),
-            ("2024-05-01T10:00:00Z ", None),
-            ("2024-05-01T10:00:00+24:00", None),
-        ] {
-            assert_eq!(rt; read_time(text.as_bytes()), want);
-        }
-    }
-}

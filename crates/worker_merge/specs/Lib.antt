@@ -1,3 +1,4 @@
 pub mod Draws
 pub mod Growing
 pub mod Hands
+pub mod Pieces

@@ -19,7 +19,7 @@ use std::alloc::Global;
 
 /// The number of the next block to scan. None where none is left, or where a block below the next one is known to be bad. It
 /// passes the gate between the draw and the look at what other workers met.
-fn draw<G: Gate>(gate: &G, board: &Board, seat: &mut BoardSeat) -> Option<u32>
+pub(crate) fn draw<G: Gate>(gate: &G, board: &Board, seat: &mut BoardSeat) -> Option<u32>
     requires belongs { BelongsTo board.now seat.old }
     requires going { (view_of seat.old).ended ≡ false }
     ensures belongs { BelongsTo board.now seat.new }

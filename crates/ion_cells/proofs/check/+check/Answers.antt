@@ -1,6 +1,7 @@
-use Rattle.std.proofs.Common.{◌∙◌, sym, arith}
+use Rattle.std.proofs.Common.{◌∙◌, refl, sym, arith}
 use Rattle.block_meaning.specs.CellReading.{blank_table}
 use Rattle.ion_cells.proofs.Checks.{past_end, byte_end, no_head, payload_end, payload_none, flat_payload, list_payload, struct_payload, no_room, cells_on, cells_end, pairs_on, pairs_end}
+use Rattle.ion_cells.proofs.ShortCells.{whole_end, whole_cut}
 use Rattle.ion_cells.proofs.check.+check.Goals as goal
 
 pub are_cells-loop-at-preserved : goal.are_cells-loop-at-preserved
@@ -21,6 +22,16 @@ are_pairs-returns-in-None t c =
 
 pub check_to-returns-then-at-bytes-clause-end : goal.check_to-returns-then-at-bytes-clause-end
 check_to-returns-then-at-bytes-clause-end t c = past_end (blank_table c.args.last) c.args.room c.args.bytes.now c.args.at c.if-at-bytes.true
+
+pub check_to-returns-then-end-bytes-clause-end : goal.check_to-returns-then-end-bytes-clause-end
+check_to-returns-then-end-bytes-clause-end t c =
+    let short = c.if-is_short_whole.ensures.0 refl in
+    rw c.from.ensures (whole_end (blank_table c.args.last) c.args.room c.args.bytes.now c.args.at (omega (arith, c.if-at-bytes.false)) short.0 short.1 (λ k. omega (arith, c.type_inv.bytes k)) (omega (arith, c.from.ensures, c.if-end-bytes.true)))
+
+pub check_to-returns-else-end-bytes-clause-end : goal.check_to-returns-else-end-bytes-clause-end
+check_to-returns-else-end-bytes-clause-end t c =
+    let short = c.if-is_short_whole.ensures.0 refl in
+    whole_cut (blank_table c.args.last) c.args.room c.args.bytes.now c.args.at (omega (arith, c.if-at-bytes.false)) short.0 short.1 (omega (arith, c.from.ensures, c.if-end-bytes.false))
 
 pub check_to-returns-then-is_one_byte-clause-end : goal.check_to-returns-then-is_one_byte-clause-end
 check_to-returns-then-is_one_byte-clause-end t c =

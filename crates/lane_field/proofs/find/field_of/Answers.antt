@@ -9,11 +9,11 @@ use Rattle.lane_field.proofs.find.field_of.Goals as goal
 
 pub returns-in-Some-clause-legal : goal.returns-in-Some-clause-legal
 returns-in-Some-clause-legal c table under =
-    pair_legal table c.whole-cell.result (c.whole-cell.ensures.of table under) c.in-Some.pairs c.args.label c.labelled.result c.labelled.ensures c.in-Some.ensures.pairs c.in-Some.ensures.last
+    pair_legal table c.whole-cell.result (c.whole-cell.ensures.of table under) c.in-Some.pairs c.args.label c.find.result c.find.ensures c.in-Some.ensures.pairs c.in-Some.ensures.last
 
 pub returns-in-Some-clause-value : goal.returns-in-Some-clause-value
 returns-in-Some-clause-value c table n under named =
-    pair_value table c.whole-cell.result (c.whole-cell.ensures.of table under) c.in-Some.pairs c.args.label c.labelled.result c.labelled.ensures c.in-Some.ensures.pairs c.in-Some.ensures.last n named
+    pair_value table c.whole-cell.result (c.whole-cell.ensures.of table under) c.in-Some.pairs c.args.label c.find.result c.find.ensures c.in-Some.ensures.pairs c.in-Some.ensures.last n named
     ∙ ap (step_of (name n)) (c.whole-cell.ensures.same table)
 
 pub returns-in-None-clause-value : goal.returns-in-None-clause-value

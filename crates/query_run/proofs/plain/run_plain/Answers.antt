@@ -21,11 +21,11 @@ returns-in_default-clause-ran g c = λ start le most.
 pub returns-in-Ok-scan_all-clause-ran : goal.returns-in-Ok-scan_all-clause-ran
 returns-in-Ok-scan_all-clause-ran g c = λ start le most.
     plain_done (query_view c.args.query.now) c.requires.plain c.args.settings.now.groups c.args.names.now (g.F.Files.told c.args.files.now) c.args.found.now.fields c.args.found.now.places.items c.args.found.now.skipped c.requires.surveyed c.requires.some
-    start (g.F.Files.taken c.args.files.now) (g.F.Files.taken c.scan_all.new.files) c.scan_all.new.scanner.ran.chunks c.scan_all.new.scanner.ran.kept (g.O.Out.holds c.args.out.now) (g.O.Out.holds c.scan_all.new.out) le c.scan_all.ensures.later most
-    record { lines = c.in-Ok-scan_all.done.lines; read = c.in-Ok-scan_all.done.read; skipped = c.args.found.now.skipped; ran = c.into_tally.result } c.in-Ok-scan_all.done refl refl refl c.into_tally.ensures.chunks c.into_tally.ensures.kept
-    (came_to c.args.names.now c.args.found.now.fields (g.F.Files.told c.args.files.now) (g.F.Files.told c.args.files.now) (query_view c.args.query.now) (query_view c.in-Ok.scanner.query.now) c.args.found.now.places.items c.deref.result.now (ap query_view c.in-Ok.ensures.query) refl c.deref.ensures.value
-    (Ok c.in-Ok-scan_all.done) (g.F.Files.taken c.args.files.now) (g.F.Files.taken c.scan_all.new.files) c.scan_all.new.scanner.ran.chunks c.scan_all.new.scanner.ran.kept (g.O.Out.holds c.args.out.now) (g.O.Out.holds c.scan_all.new.out) c.in-Ok-scan_all.ensures.outcome)
-    (read_most c.args.names.now c.args.found.now.fields (g.F.Files.told c.args.files.now) (g.F.Files.told c.args.files.now) (query_view c.args.query.now) (query_view c.in-Ok.scanner.query.now) c.args.found.now.places.items c.deref.result.now (ap query_view c.in-Ok.ensures.query) refl c.deref.ensures.value
+    start (g.F.Files.taken c.args.files.now) (g.F.Files.taken c.scan_all.new.files) c.scan_all.new.ran.chunks c.scan_all.new.ran.kept (g.O.Out.holds c.args.out.now) (g.O.Out.holds c.scan_all.new.out) le c.scan_all.ensures.later most
+    record { lines = c.in-Ok-scan_all.done.lines; read = c.in-Ok-scan_all.done.read; skipped = c.args.found.now.skipped; ran = c.scan_all.new.ran } c.in-Ok-scan_all.done refl refl refl refl refl
+    (came_to c.args.names.now c.args.found.now.fields (g.F.Files.told c.args.files.now) (g.F.Files.told c.args.files.now) (query_view c.args.query.now) (query_view c.args.query.now) c.args.found.now.places.items c.deref.result.now refl refl c.deref.ensures.value
+    (Ok c.in-Ok-scan_all.done) (g.F.Files.taken c.args.files.now) (g.F.Files.taken c.scan_all.new.files) c.scan_all.new.ran.chunks c.scan_all.new.ran.kept (g.O.Out.holds c.args.out.now) (g.O.Out.holds c.scan_all.new.out) c.in-Ok-scan_all.ensures.outcome)
+    (read_most c.args.names.now c.args.found.now.fields (g.F.Files.told c.args.files.now) (g.F.Files.told c.args.files.now) (query_view c.args.query.now) (query_view c.args.query.now) c.args.found.now.places.items c.deref.result.now refl refl c.deref.ensures.value
     (g.F.Files.taken c.args.files.now) (g.F.Files.taken c.scan_all.new.files) c.scan_all.ensures.cost)
     c.scan_all.ensures.some
 
@@ -33,11 +33,11 @@ pub returns-in-Err-clause-ran : goal.returns-in-Err-clause-ran
 returns-in-Err-clause-ran g c = λ start le most.
     subst (λ (r : QueryFault). RunsTo (query_view c.args.query.now) c.args.settings.now.groups c.args.names.now (g.F.Files.told c.args.files.now) (Err r) start (g.F.Files.taken c.scan_all.new.files) (g.O.Out.holds c.args.out.now) (g.O.Out.holds c.scan_all.new.out)) (sym c.of_scan.ensures)
     (plain_stopped (query_view c.args.query.now) c.requires.plain c.args.settings.now.groups c.args.names.now (g.F.Files.told c.args.files.now) c.args.found.now.fields c.args.found.now.places.items c.args.found.now.skipped c.requires.surveyed c.requires.some
-    start (g.F.Files.taken c.args.files.now) (g.F.Files.taken c.scan_all.new.files) c.scan_all.new.scanner.ran.chunks c.scan_all.new.scanner.ran.kept (g.O.Out.holds c.args.out.now) (g.O.Out.holds c.scan_all.new.out) le c.scan_all.ensures.later most
+    start (g.F.Files.taken c.args.files.now) (g.F.Files.taken c.scan_all.new.files) c.scan_all.new.ran.chunks c.scan_all.new.ran.kept (g.O.Out.holds c.args.out.now) (g.O.Out.holds c.scan_all.new.out) le c.scan_all.ensures.later most
     c.in-Err.fault
-    (came_to c.args.names.now c.args.found.now.fields (g.F.Files.told c.args.files.now) (g.F.Files.told c.args.files.now) (query_view c.args.query.now) (query_view c.in-Ok.scanner.query.now) c.args.found.now.places.items c.deref.result.now (ap query_view c.in-Ok.ensures.query) refl c.deref.ensures.value
-    (Err c.in-Err.fault) (g.F.Files.taken c.args.files.now) (g.F.Files.taken c.scan_all.new.files) c.scan_all.new.scanner.ran.chunks c.scan_all.new.scanner.ran.kept (g.O.Out.holds c.args.out.now) (g.O.Out.holds c.scan_all.new.out) c.in-Err.ensures.outcome)
-    (read_most c.args.names.now c.args.found.now.fields (g.F.Files.told c.args.files.now) (g.F.Files.told c.args.files.now) (query_view c.args.query.now) (query_view c.in-Ok.scanner.query.now) c.args.found.now.places.items c.deref.result.now (ap query_view c.in-Ok.ensures.query) refl c.deref.ensures.value
+    (came_to c.args.names.now c.args.found.now.fields (g.F.Files.told c.args.files.now) (g.F.Files.told c.args.files.now) (query_view c.args.query.now) (query_view c.args.query.now) c.args.found.now.places.items c.deref.result.now refl refl c.deref.ensures.value
+    (Err c.in-Err.fault) (g.F.Files.taken c.args.files.now) (g.F.Files.taken c.scan_all.new.files) c.scan_all.new.ran.chunks c.scan_all.new.ran.kept (g.O.Out.holds c.args.out.now) (g.O.Out.holds c.scan_all.new.out) c.in-Err.ensures.outcome)
+    (read_most c.args.names.now c.args.found.now.fields (g.F.Files.told c.args.files.now) (g.F.Files.told c.args.files.now) (query_view c.args.query.now) (query_view c.args.query.now) c.args.found.now.places.items c.deref.result.now refl refl c.deref.ensures.value
     (g.F.Files.taken c.args.files.now) (g.F.Files.taken c.scan_all.new.files) c.scan_all.ensures.cost)
     c.scan_all.ensures.some)
 

@@ -1,6 +1,6 @@
 use Rattle.std.proofs.Common.{ℕ, List}
 use Rattle.range_meaning.specs.Excluded.{HoldsWithin}
-use Rattle.time_index.specs.Labels.{IsLabelOf}
+use Rattle.ion_cells.specs.Finding.{IsLabelOf}
 use Rattle.time_index.proofs.Rows.{AllBefore}
 use Rattle.time_index.proofs.soundness.are_within.Given as goal
 

@@ -1,6 +1,6 @@
 use Rattle.std.proofs.Common.{subst}
 use Rattle.block_meaning.specs.Tables.{Table}
-use Rattle.time_index.specs.Labels.{IsLabelOf}
+use Rattle.ion_cells.specs.Finding.{IsLabelOf}
 use Rattle.time_index.proofs.Conjuncts.{not_empty}
 use Rattle.time_index.proofs.soundness.in_range.Goals as goal
 
