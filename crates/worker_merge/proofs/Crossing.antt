@@ -107,4 +107,4 @@ Instrs-sync : IsSync (Vec.the_row Instr.the_row Global.the_row heap.ghosts)
 Instrs-sync = vec.the_sync Instr.the_row Global.the_row heap.ghosts Instr-sync allocator.the_sync
 
 pub Job-sync : IsSync Job.the_row
-Job-sync = view_sync inside.the_row _ _ _ _ (recorded_sync inside.the_field.row _ _ inside.the_type.to_one (struct_sync (shape inside.the_type) (Instrs-sync, (Ends-sync, tt))))
+Job-sync = view_sync inside.the_row _ _ _ _ (recorded_sync inside.the_field.row _ _ inside.the_type.to_one (struct_sync (shape inside.the_type) (Instrs-sync, (n, (n, (Ends-sync, tt))))))
