@@ -318,7 +318,7 @@ caused_here A names told k name at old now new p (Absent j) of_files s = λ file
 caused_here A names told k name at old now new p (NotAFile j) of_files s = λ files is. other_here files names k name at old now new (p files is) j (s files is)
 caused_here A names told k name at old now new p (Damaged j block) of_files s = λ files is. bad_here files names k name at old now new (p files is) j block (s files is)
 caused_here A names told k name at old now new p ReadFault of_files s = tt
-caused_here A names told k name at old now new p WriteFault of_files s = tt
+caused_here A names told k name at old now new p WriteFault of_files s = λ files is. let put = s files is in (k, name, put.0, at, put.2, put.3)
 caused_here A names told k name at old now new p OutOfMemory of_files s = tt
 caused_here A names told k name at old now new p (Text f) of_files s = absurd of_files
 caused_here A names told k name at old now new p Groups of_files s = absurd of_files

@@ -1,5 +1,5 @@
 -- What checking files owes.
-use Rattle.std.specs.Prelude.{◌≡◌, ℕ, List, [], Option, Some, None, Result, Ok, Err, ⊤}
+use Rattle.std.specs.Prelude.{◌≡◌, ℕ, List, [], Option, Some, None, slice_get, Result, Ok, Err, ⊤}
 use Rattle.std.specs.Option.{ForSome}
 use Rattle.std.specs.Io.KnownBytes.{Appends}
 use Rattle.snel_device.specs.Contents.{Contents}
@@ -16,7 +16,12 @@ abbrev pub Checks : List (List ℕ) → Option Contents → ℕ → Option (List
 Checks names told status old new =
     ForSome told (λ files. (c : Checked) → ChecksAs names files c → EndsCheck names files status old new)
 
--- what the answer says of the names and the files
+-- one of the names is that of a block file of which no block is bad
+abbrev pub HasSoundFile : List (List ℕ) → Contents → Type 0
+HasSoundFile names files =
+    (k : ℕ) × (name : List ℕ) × (o : Opened) × (slice_get names k ≡ Some name) × IsNamed (files name) (opened o) × (first_bad (blocks_of k o) ≡ None)
+
+-- What the answer says of the names and the files. A put fails only where a line is put, that of a sound file.
 abbrev pub HasCheckCause : {A : Type 0} → List (List ℕ) → Option Contents → Result A QueryFault → Type 0
 HasCheckCause names told (Ok a) = ForSome told (λ files. ChecksAs names files sound)
 HasCheckCause names told (Err (Absent k)) = ForSome told (λ files. ChecksAs names files (absent_file k))
@@ -25,6 +30,7 @@ HasCheckCause names told (Err (Damaged file block)) =
     ForSome told (λ files. (p : Place) × (p.block ≡ block) × ChecksAs names files (bad_block file p))
 HasCheckCause names told (Err (Text f)) = ⊥
 HasCheckCause names told (Err Groups) = ⊥
+HasCheckCause names told (Err WriteFault) = ForSome told (λ files. HasSoundFile names files)
 HasCheckCause names told (Err fault) = ⊤
 
 -- What checking the file of this name, which has this number, says of it, and what is written: its line where no block is bad, at a failed
