@@ -6,12 +6,11 @@ use Rattle.query_run.specs.declared.sum.QuerySum.{QuerySum}
 use Rattle.query_run.specs.declared.query_fault.QueryFault.{QueryFault}
 use Rattle.query_run.proofs.Refusing.{memory_run}
 use Rattle.query_run.proofs.Surveyed.{all_placed}
-use Rattle.query_run.proofs.Refusing.{never_absent}
 use Rattle.query_run.proofs.PlainEnding.{came_to, read_most, plain_done, plain_stopped}
 use Rattle.query_run.proofs.plain.run_plain.Goals as goal
 
 pub scan_all-requires-clause-placed : goal.scan_all-requires-clause-placed
-scan_all-requires-clause-placed g c =
+scan_all-requires-clause-placed g c = λ κs into.
     all_placed (query_view c.args.query.now) c.args.names.now (g.F.Files.told c.args.files.now) _ _ _ c.requires.surveyed _ c.deref.result.now refl c.deref.ensures.value
 
 pub returns-in_default-clause-ran : goal.returns-in_default-clause-ran
@@ -29,8 +28,8 @@ returns-in-Ok-scan_all-clause-ran g c = λ start le most.
     (g.F.Files.taken c.args.files.now) (g.F.Files.taken c.scan_all.new.files) c.scan_all.ensures.cost)
     c.scan_all.ensures.some
 
-pub returns-in-Err-clause-ran : goal.returns-in-Err-clause-ran
-returns-in-Err-clause-ran g c = λ start le most.
+pub returns-clause-ran : goal.returns-clause-ran
+returns-clause-ran g c = λ start le most.
     subst (λ (r : QueryFault). RunsTo (query_view c.args.query.now) c.args.settings.now.groups c.args.names.now (g.F.Files.told c.args.files.now) (Err r) start (g.F.Files.taken c.scan_all.new.files) (g.O.Out.holds c.args.out.now) (g.O.Out.holds c.scan_all.new.out)) (sym c.of_scan.ensures)
     (plain_stopped (query_view c.args.query.now) c.requires.plain c.args.settings.now.groups c.args.names.now (g.F.Files.told c.args.files.now) c.args.found.now.fields c.args.found.now.places.items c.args.found.now.skipped c.requires.surveyed c.requires.some
     start (g.F.Files.taken c.args.files.now) (g.F.Files.taken c.scan_all.new.files) c.scan_all.new.ran.chunks c.scan_all.new.ran.kept (g.O.Out.holds c.args.out.now) (g.O.Out.holds c.scan_all.new.out) le c.scan_all.ensures.later most
@@ -40,6 +39,3 @@ returns-in-Err-clause-ran g c = λ start le most.
     (read_most c.args.names.now c.args.found.now.fields (g.F.Files.told c.args.files.now) (g.F.Files.told c.args.files.now) (query_view c.args.query.now) (query_view c.args.query.now) c.args.found.now.places.items c.deref.result.now refl refl c.deref.ensures.value
     (g.F.Files.taken c.args.files.now) (g.F.Files.taken c.scan_all.new.files) c.scan_all.ensures.cost)
     c.scan_all.ensures.some)
-
-pub returns-in-Err-clause-present : goal.returns-in-Err-clause-present
-returns-in-Err-clause-present g c = never_absent QuerySum c.in-Err.fault c.of_scan.result c.of_scan.ensures

@@ -7,10 +7,11 @@ use Rattle.query_run.specs.Runs.{RunsTo}
 use Rattle.query_run.proofs.query.run_found.Goals as goal
 
 pub run_plain-requires-clause-simulates : goal.run_plain-requires-clause-simulates
-run_plain-requires-clause-simulates g c = subst (λ (p : Query). Simulates c.args.job.now p) (sym c.query-then-len-eq0.ensures.is) c.requires.simulates
+run_plain-requires-clause-simulates g c = λ κs into.
+    subst (λ (p : Query). Simulates c.args.job.now p) (sym c.query-then-len-eq0.ensures.is) c.requires.simulates
 
 pub run_plain-requires-clause-surveyed : goal.run_plain-requires-clause-surveyed
-run_plain-requires-clause-surveyed g c = λ files is.
+run_plain-requires-clause-surveyed g c = λ κs into files is.
     subst (λ (p : Query). Surveys p c.args.names.now (length c.args.names.now) files c.args.found.now.fields c.args.found.now.places.items c.args.found.now.skipped) (sym c.query-then-len-eq0.ensures.is) (c.requires.surveyed files is)
 
 pub returns-then-len-eq0-clause-ran : goal.returns-then-len-eq0-clause-ran
