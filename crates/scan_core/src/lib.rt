@@ -9,8 +9,6 @@ mod event;
 mod memory;
 mod state;
 mod steps;
-#[cfg(test)]
-mod tests;
 mod view;
 mod views;
 

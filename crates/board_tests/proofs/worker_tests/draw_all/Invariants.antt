@@ -1,6 +1,6 @@
 use Rattle.std.proofs.Common.{◌≡◌, ◌-◌, false, length}
 use Rattle.scan_board.specs.Seats.{BelongsTo, view_of, blocks_of}
-use Rattle.scan_board.proofs.tests.draw_all.Given as goal
+use Rattle.board_tests.proofs.worker_tests.draw_all.Given as goal
 
 abbrev pub invariant-loop-block : goal.invariant-loop-block
 invariant-loop-block l = record {

@@ -1,4 +1,4 @@
-use crate::{Claims, ScanEvent, ScanState, ScanView, ScanViews, StepFault, Told, step};
+use scan_core::{Claims, ScanEvent, ScanState, ScanView, ScanViews, StepFault, Told, step};
 use std::test::Fail;
 
 #[test]
